@@ -1,0 +1,5 @@
+pub mod Joining
+pub mod PathOrder
+pub mod Parts
+pub mod PathTexts
+pub mod FolderTexts

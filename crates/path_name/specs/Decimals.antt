@@ -1,0 +1,23 @@
+-- Numbers as decimal digits.
+use Rattle.std.specs.Prelude.{◌≡◌, ℕ, ◌<◌, ◌^◌, List, [], ◌∷◌, Bool, false, ◌&&◌}
+use Rattle.std.specs.List.{list_all}
+use Rattle.std.specs.Fmt.{decimal}
+use Rattle.std.specs.Str.Parse.{digits_value}
+use Rattle.path_name.specs.Bytes.{is_digit}
+use Rattle.std.proofs.lemmas.Fmt.{decimal_is_IsNumeral}
+
+-- one digit or more
+abbrev pub is_number : List ℕ → Bool
+is_number [] = false
+is_number (first ∷ rest) = is_digit first && list_all is_digit rest
+
+-- the number that digits stand for, leading zeros or not
+abbrev pub number_of : List ℕ → ℕ
+number_of digits = digits_value 10 digits
+
+-- a number's digits without leading zeros, `0` for 0
+abbrev pub decimal_text : ℕ → List ℕ
+decimal_text n = decimal n
+
+pub number_of-decimal_text : (n : ℕ) → n < 2 ^ 64 → number_of (decimal_text n) ≡ n
+number_of-decimal_text n small = (decimal_is_IsNumeral n small).1
