@@ -1,13 +1,14 @@
 -- Texts cut at `/`, and segments joined by it.
-use Rattle.std.proofs.Common.{◌≡◌, ◌≢◌, ℕ, suc, ◌+◌, ◌-◌, ◌<◌, ◌≤◌, Bool, true, false, cond, eqb, List, [], ◌∷◌, ◌++◌, length, get_or, take, drop, Some, refl, sym, ap, ◌∙◌, append_assoc, arith, inl, inr}
-use Rattle.std.specs.Prelude.{not, ◌&&◌}
+use Rattle.std.proofs.Common.{Option, None, ◌≡◌, ◌≢◌, ℕ, suc, ◌+◌, ◌-◌, ◌<◌, ◌≤◌, Bool, true, false, cond, eqb, List, [], ◌∷◌, ◌++◌, length, get_or, take, drop, Some, refl, sym, ap, ◌∙◌, append_assoc, arith, inl, inr}
+use Rattle.std.specs.Prelude.{not, ◌&&◌, MatchOption}
+use Rattle.std.specs.Borrow.{Bor}
 use Rattle.std.specs.List.{slice_split, onto_first, join_with_byte, list_all, count_by}
 use Rattle.std.proofs.lemmas.Bool.Decides.{eqb_tells}
 use Rattle.std.proofs.lemmas.List.{take-append-drop, drop_more, length-append, append-nil, take_at, take_all, drop_at, drop_all, length-take, length-take-le, length-drop, take-take, get_or-take, get_or-drop}
 use Rattle.std.proofs.lemmas.List.Folds.{list_all-append}
 use Rattle.std.proofs.lemmas.List.Splits.{join_with_byte-slice_split, length-slice_split}
-use Rattle.path_name.specs.Paths.{is_slash, has_no_slash, is_clean, is_here, is_above, is_segment, IsPath, BeginsWith, EndsWith, path_text, without_last}
-use Rattle.path_name.specs.Joined.{segments_of, set_off, IsSetOff, HasNoSlash, IsSlashAt}
+use Rattle.path_name.specs.Paths.{is_slash, has_no_slash, is_clean, is_here, is_above, is_segment, IsPath, BeginsWith, IsBehind, EndsWith, path_text, without_last}
+use Rattle.path_name.specs.Joined.{segments_of, set_off, IsSetOff, IsRestOf, HasNoSlash, IsSlashAt}
 
 abbrev pub split : List ℕ → List (List ℕ)
 split text = slice_split is_slash text
@@ -197,16 +198,20 @@ no_first : (front rest : List (List ℕ)) → HasFirst front → [] ≡ front ++
 no_first [] rest h e = h
 no_first (x ∷ xs) rest h e = cc
 
-pub begins_if : (joined head : List ℕ) → 0 < length head → take (length head) joined ≡ head → IsSetOff (drop (length head) joined) → BeginsWith (segments_of joined) (segments_of head)
-begins_if joined head some same off =
-    let whole : joined ≡ head ++ drop (length head) joined = sym (take-append-drop (length head) joined) ∙ ap (λ front. front ++ drop (length head) joined) same in
-    by_rest (drop (length head) joined) off whole
-  where
-    by_rest : (rest : List ℕ) → IsSetOff rest → joined ≡ head ++ rest → BeginsWith (segments_of joined) (segments_of head)
-    by_rest [] off e = ([], ap segments_of (e ∙ append-nil head) ∙ sym (append-nil (segments_of head)))
-    by_rest (byte ∷ bytes) off e =
-        let cut : joined ≡ head ++ 47 ∷ bytes = e ∙ ap (λ b. head ++ b ∷ bytes) off in
-        (split bytes, segments_of-split joined (rw cut (omega (arith, length-append head (47 ∷ bytes)))) ∙ ap split cut ∙ split_at head bytes ∙ ap (λ front. front ++ split bytes) (sym (segments_of-split head some)))
+-- the back of a path's text is a path's text too
+segments_of-back : (front : List (List ℕ)) (back : List ℕ) → list_all is_segment (front ++ split back) ≡ true → segments_of back ≡ split back
+segments_of-back front [] h = absurd (no_empty_segment (both_true (is_segment []) true (both_true (list_all is_segment front) (list_all is_segment ([] ∷ [])) (sym (list_all-append is_segment front ([] ∷ [])) ∙ h)).1).0)
+segments_of-back front (x ∷ xs) h = refl
+
+-- what follows a whole head
+pub behind_head : (joined head rest after : List ℕ) → 0 < length head → IsPath (segments_of joined) → joined ≡ head ++ rest → IsRestOf rest after → segments_of joined ≡ segments_of head ++ segments_of after
+behind_head joined head [] after some path e is =
+    rw is (ap segments_of (e ∙ append-nil head) ∙ sym (append-nil (segments_of head)))
+behind_head joined head (byte ∷ bytes) after some path e is =
+    let cut : joined ≡ head ++ 47 ∷ bytes = e ∙ ap (λ b. head ++ b ∷ bytes) is.0 in
+    let parts : segments_of joined ≡ split head ++ split bytes = segments_of-split joined (rw cut (omega (arith, length-append head (47 ∷ bytes)))) ∙ ap split cut ∙ split_at head bytes in
+    let back : segments_of bytes ≡ split bytes = segments_of-back (split head) bytes (rw parts at path) in
+    rw (is.1, back, segments_of-split head some) parts
 
 pub begins_only : (joined head : List ℕ) → 0 < length head → BeginsWith (segments_of joined) (segments_of head) → (take (length head) joined ≡ head) × IsSetOff (drop (length head) joined)
 begins_only [] head some begins = absurd (no_first (split head) begins.0 (split_has_first head) (begins.1 ∙ ap (λ front. front ++ begins.0) (segments_of-split head some)))
@@ -252,3 +257,23 @@ none_left segments i e =
 
 pub IsPath-append : (front back : List (List ℕ)) → IsPath front → IsPath back → IsPath (front ++ back)
 IsPath-append front back p q = list_all-append is_segment front back ∙ rw (p, q) refl
+
+-- what is found behind a head that is there
+pub behind_found : (joined head rest : List ℕ) (found : Option (Bor (List ℕ))) → 0 < length head → IsPath (segments_of joined) → take (length head) joined ≡ head → rest ≡ drop (length head) joined
+    → MatchOption found (IsSetOff rest → ⊥) (λ after. IsRestOf rest after.now)
+    → MatchOption found (BeginsWith (segments_of joined) (segments_of head) → ⊥) (λ after. segments_of joined ≡ segments_of head ++ segments_of after.now)
+behind_found joined head rest None some path same is h = λ begins. h (rw is (begins_only joined head some begins).1)
+behind_found joined head rest (Some after) some path same is h =
+    let whole : joined ≡ head ++ rest = sym (take-append-drop (length head) joined) ∙ ap (λ front. front ++ drop (length head) joined) same ∙ ap (λ back. head ++ back) (sym is) in
+    behind_head joined head rest after.now some path whole h
+
+pub join-segments_of : (joined : List ℕ) → join_with_byte 47 (segments_of joined) ≡ joined
+join-segments_of [] = refl
+join-segments_of (x ∷ xs) = join-split (x ∷ xs)
+
+-- the same, said of a path
+pub is_behind : (path head : List (List ℕ)) (found : Option (Bor (List ℕ)))
+    → MatchOption found (BeginsWith path head → ⊥) (λ after. path ≡ head ++ segments_of after.now)
+    → MatchOption found (BeginsWith path head → ⊥) (λ after. IsBehind path head after.now)
+is_behind path head None h = h
+is_behind path head (Some after) h = (segments_of after.now, h, sym (join-segments_of after.now))

@@ -8,7 +8,7 @@ use Rattle.std.proofs.lemmas.Bool.Decides.{same_from_decides}
 use Rattle.path_name.specs.Orders.{bytes_are_equal, paths_are_equal}
 use Rattle.path_name.specs.Paths.{is_clean, is_segment, IsPath, path_text, placed, path_step, read_parts, path_of}
 use Rattle.path_name.specs.Joined.{segments_of}
-use Rattle.path_name.proofs.Joining.{both_true, segment_facts, all_whole, split-join, join-split}
+use Rattle.path_name.proofs.Joining.{both_true, segment_facts, all_whole, split-join, join-segments_of}
 use Rattle.path_name.proofs.Parts.{reads_on}
 
 pub dot_is_clean : is_clean (46 ∷ []) ≡ true
@@ -37,10 +37,6 @@ unfolding path_of
 path_of-path_text [] path = rw dot_is_clean refl
 path_of-path_text (s ∷ rest) path =
     ap (λ parts. read_parts path_step [] (placed 0 parts)) (split-join s rest (all_whole (s ∷ rest) path)) ∙ reads_segments 0 [] (s ∷ rest) path
-
-join-segments_of : (joined : List ℕ) → join_with_byte 47 (segments_of joined) ≡ joined
-join-segments_of [] = refl
-join-segments_of (x ∷ xs) = join-split (x ∷ xs)
 
 -- texts are equal where their segments are
 pub same_paths : (a b : List ℕ) → bytes_are_equal a b ≡ paths_are_equal (segments_of a) (segments_of b)

@@ -41,3 +41,8 @@ IsSetOff (byte ∷ bytes) = byte ≡ 47
 -- the text's first bytes hold all segments but the last ones, as many as up says
 abbrev pub IsAncestor : List ℕ → ℕ → ℕ → Type 0
 IsAncestor joined up len = (len ≤ length joined) × (segments_of (take len joined) ≡ take (length (segments_of joined) - up) (segments_of joined))
+
+-- what follows a segment is nothing, or a `/` and the rest
+abbrev pub IsRestOf : List ℕ → List ℕ → Type 0
+IsRestOf [] rest = rest ≡ []
+IsRestOf (byte ∷ bytes) rest = (byte ≡ 47) × (rest ≡ bytes)

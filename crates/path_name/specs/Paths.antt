@@ -43,6 +43,10 @@ path_text (first ∷ rest) = join_with_byte 47 (first ∷ rest)
 abbrev pub BeginsWith : List (List ℕ) → List (List ℕ) → Type 0
 BeginsWith path head = (rest : List (List ℕ)) × (path ≡ head ++ rest)
 
+-- the text joins the segments behind those of the head
+abbrev pub IsBehind : List (List ℕ) → List (List ℕ) → List ℕ → Type 0
+IsBehind path head text = (rest : List (List ℕ)) × (path ≡ head ++ rest) × (text ≡ join_with_byte 47 rest)
+
 -- the path's last segment
 abbrev pub EndsWith : List (List ℕ) → List ℕ → Type 0
 EndsWith path segment = (front : List (List ℕ)) × (path ≡ front ++ segment ∷ [])

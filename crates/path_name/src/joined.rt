@@ -5,7 +5,7 @@ ghost use Rattle.std.specs.Str.{is_utf8};
 ghost use Rattle.std.specs.List.{slice_split, list_all, count_by};
 ghost use Rattle.path_name.specs.Orders.{path_cmp};
 ghost use Rattle.path_name.specs.Paths.{is_slash, has_no_slash, is_clean, is_here, is_above, is_segment, IsPath, BeginsWith, EndsWith, without_last, entered};
-ghost use Rattle.path_name.specs.Joined.{segments_of, rank, joined_cmp, set_off, IsSetOff, IsAncestor, HasNoSlash, IsSlashAt};
+ghost use Rattle.path_name.specs.Joined.{segments_of, rank, joined_cmp, set_off, IsSetOff, IsRestOf, IsAncestor, HasNoSlash, IsSlashAt};
 
 use std::alloc::{AllocError, Global};
 use std::cmp::Ordering;
@@ -178,26 +178,29 @@ pub fn join(alloc: Global, head: &[u8], tail: &[u8]) -> Result<Vec<u8>, AllocErr
     Ok(joined)
 }
 
-/// Whether the segments of `head` are the first ones of the text.
-pub fn begins_with(joined: &[u8], head: &[u8]) -> bool
-    ensures { IsTrue result ↔ BeginsWith (segments_of joined.now) (segments_of head.now) }
+/// The segments behind those of `head`, joined. None where these are not the first ones of the text.
+pub fn behind<'a>(joined: &'a [u8], head: &[u8]) -> Option<&'a [u8]>
+    requires { IsPath (segments_of joined.now) }
+    ensures { MatchOption result (BeginsWith (segments_of joined.now) (segments_of head.now) → ⊥)
+        (λ rest. segments_of joined.now ≡ segments_of head.now ++ segments_of rest.now) }
 {
     if head.is_empty() {
-        return true;
+        return Some(joined);
     }
     match joined.strip_prefix(head) {
-        None => false,
-        Some(rest) => is_set_off(rest),
+        None => None,
+        Some(rest) => set_off_rest(rest),
     }
 }
 
-/// Whether the text before it ends with a whole segment.
-fn is_set_off(rest: &[u8]) -> bool
-    ensures { IsTrue result ↔ IsSetOff rest.now }
+/// What follows a whole segment: nothing, or what stands behind a `/`.
+fn set_off_rest(rest: &[u8]) -> Option<&[u8]>
+    ensures { MatchOption result (IsSetOff rest.now → ⊥) (λ after. IsRestOf rest.now after.now) }
 {
     match rest {
-        [] => true,
-        [first, ..] => *first == SLASH,
+        [] => Some(rest),
+        [b'/', after @ ..] => Some(after),
+        [_, ..] => None,
     }
 }
 

@@ -34,7 +34,7 @@ impl Model for Path {
 }
 
 impl Path {
-    ghost use Rattle.path_name.specs.Paths.{IsPath, BeginsWith, EndsWith, path_of, path_text, without_last};
+    ghost use Rattle.path_name.specs.Paths.{IsPath, BeginsWith, IsBehind, EndsWith, path_of, path_text, without_last};
     ghost use Rattle.path_name.specs.FolderRefs.{folder_of};
     ghost use Rattle.path_name.specs.declared.fault.PathFault.TheVariants.{OutOfMemory};
 
@@ -92,7 +92,16 @@ impl Path {
     pub fn starts_with(&self, head: &Path) -> bool
         ensures { IsTrue result ↔ BeginsWith self.now head.now }
     {
-        joined::begins_with(self.joined.as_slice(), head.joined.as_slice())
+        self.below(head).is_some()
+    }
+
+    /// The segments behind those of `head`, joined by `/`, and nothing where there are none. None where
+    /// the segments of `head` are not the first ones of this path.
+    pub fn below(&self, head: &Path) -> Option<&[u8]>
+        ensures { MatchOption result (BeginsWith self.now head.now → ⊥)
+            (λ rest. IsBehind self.now head.now rest.now) }
+    {
+        joined::behind(self.joined.as_slice(), head.joined.as_slice())
     }
 
     /// The path without its last segment; None for the root. Its one refusal is want of memory.

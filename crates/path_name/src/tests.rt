@@ -95,6 +95,12 @@ fn paths(rt: HostRuntime) -> Result<(), Fail> {
     assert!(rt; src.starts_with(&app) && src.starts_with(&root) && src.starts_with(&src));
     assert!(rt; !path(alloc, b"srcs/x")?.starts_with(&path(alloc, b"src")?));
     assert!(rt; !app.starts_with(&src));
+    assert_eq!(rt;
+        path(alloc, b"app/src/Home.php")?.below(&app),
+        Some(b"src/Home.php".as_slice())
+    );
+    assert_eq!(rt; src.below(&src), Some(b"".as_slice()));
+    assert_eq!(rt; app.below(&src), None);
     assert_eq!(rt; src.parent(alloc)?, Some(app));
     assert_eq!(rt; root.parent(alloc)?, None);
     assert_eq!(rt; src.last(), Some(b"src".as_slice()));

@@ -1,0 +1,14 @@
+pub mod Digits
+pub mod Words
+pub mod Sequences
+pub mod Following
+pub mod Front
+pub mod Letters
+pub mod Spelled
+pub mod Read
+pub mod OrderLaws
+pub mod Plain
+pub mod ReadBack
+pub mod Ranges
+pub mod Ordered
+pub mod Blanks

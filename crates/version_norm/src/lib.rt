@@ -1,0 +1,22 @@
+//! Versions: their normal form, their order, their stability and their text, by the rules of Composer's
+//! documentation ("Versions and constraints") and of its library composer/semver.
+#![tactic(auto)]
+
+mod fault;
+mod laws;
+mod normal_form;
+mod normal_text;
+mod numbered;
+mod order;
+mod pieces;
+mod version;
+
+pub use fault::VersionFault;
+pub use laws::{classical_versions, cuts, normal_texts, numbered_branches, rules, version_order};
+pub use normal_form::normalise;
+pub use normal_text::print;
+pub use order::compare;
+pub use version::{Grade, Modifier, Numbered, Numbers, Stage, Version, stability};
+
+#[cfg(test)]
+mod tests;
