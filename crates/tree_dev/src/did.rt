@@ -1,0 +1,10 @@
+//! Whether a change was made.
+
+/// What a call that changes a tree answers.
+#[derive(Clone, Copy, Debug, PartialEq, Eq)]
+pub enum Did {
+    /// The change was made.
+    Done,
+    /// The tree has no place for it, and nothing changed.
+    Misplaced,
+}

@@ -1,0 +1,123 @@
+//! The entries of a tree in memory.
+
+ghost use Rattle.std.specs.Prelude.{◌≡◌, ◌<◌, ◌^◌, OnOk, OnErr, IfOk};
+ghost use Rattle.std.specs.Option.{option_copied};
+ghost use Rattle.std.specs.FinMap as map;
+ghost use Rattle.tree_dev.specs.Trees.{kind_of, read_of, kind_at, read_at};
+
+use crate::{Entry, Kind, ReadAnswer};
+use path_name::Path;
+use std::alloc::{AllocError, Global};
+use std::collections::BTreeMap;
+use std::marker::Model;
+
+/// A tree of so many entries has no memory for another.
+const MOST_ENTRIES: usize = 4_294_967_295;
+
+/// The entries of a tree by their paths, without the root. A contract sees the finite map.
+#[derive(Debug, Drop)]
+pub struct Files {
+    entries: BTreeMap<Path, Entry>,
+}
+
+impl Model for Files {
+    ghost use Rattle.std.specs.FinMap as map;
+    ghost use Rattle.tree_dev.specs.Trees.{FileTree};
+    ghost use Rattle.tree_dev.specs.Memory.{tree_code};
+
+    ghost Value = { FileTree };
+
+    ghost coded = { tree_code };
+
+    ghost view = { λ files. map.from_entries files.entries.entries };
+
+    ghost use Rattle.std.specs.Prelude.{◌<◌, ◌^◌, length};
+
+    ghost invariant = { λ files. length files.entries.entries < 2 ^ 32 };
+}
+
+impl Files {
+    pub fn new(alloc: Global) -> Files
+        ensures { result ≡ map.empty }
+    {
+        Files {
+            entries: BTreeMap::new(alloc),
+        }
+    }
+
+    pub fn get(&self, at: &Path) -> Option<&Entry>
+        ensures { option_copied result ≡ map.get self.now at.now }
+    {
+        self.entries.get(at)
+    }
+
+    pub fn contains(&self, at: &Path) -> bool
+        ensures { result ≡ map.contains_key self.now at.now }
+    {
+        self.get(at).is_some()
+    }
+
+    pub fn insert(&mut self, at: Path, entry: Entry) -> Result<(), AllocError>
+        ensures ok { OnOk result (self.new ≡ map.insert self.old at entry) }
+        ensures few { OnOk result (map.len self.new < 2 ^ 32) }
+        ensures err { OnErr result (self.new ≡ self.old) }
+    {
+        if self.entries.len() >= MOST_ENTRIES && !self.entries.contains_key(&at) {
+            return Err(AllocError);
+        }
+        self.entries.insert(at, entry)?;
+        Ok(())
+    }
+
+    pub fn remove(&mut self, at: &Path)
+        ensures { self.new ≡ map.remove self.old at.now }
+    {
+        self.entries.remove(at);
+    }
+
+    /// What kind of entry is at a path.
+    pub fn kind(&self, at: &Path) -> Kind
+        ensures { result ≡ kind_at self.now at.now }
+    {
+        match at.last() {
+            None => Kind::Folder,
+            Some(_) => kind_of(self.get(at)),
+        }
+    }
+
+    /// What reading a path answers.
+    pub fn read(&self, alloc: Global, at: &Path, most: u64) -> Result<ReadAnswer, AllocError>
+        ensures { IfOk result (λ answer. answer ≡ read_at self.now at.now most) }
+    {
+        match at.last() {
+            None => Ok(ReadAnswer::NotFile),
+            Some(_) => read_of(alloc, self.get(at), most),
+        }
+    }
+}
+
+fn kind_of(present: Option<&Entry>) -> Kind
+    ensures { result ≡ kind_of (option_copied present.entry) }
+{
+    match present {
+        None => Kind::Absent,
+        Some(Entry::File(_)) => Kind::File,
+        Some(Entry::Folder) => Kind::Folder,
+        Some(Entry::Other) => Kind::Other,
+    }
+}
+
+fn read_of(alloc: Global, present: Option<&Entry>, most: u64) -> Result<ReadAnswer, AllocError>
+    ensures { IfOk result (λ answer. answer ≡ read_of most (option_copied present.entry)) }
+{
+    match present {
+        None => Ok(ReadAnswer::Absent),
+        Some(Entry::Folder | Entry::Other) => Ok(ReadAnswer::NotFile),
+        Some(Entry::File(bytes)) => {
+            if most < bytes.as_slice().len() as u64 {
+                return Ok(ReadAnswer::TooLong);
+            }
+            Ok(ReadAnswer::Bytes(bytes.copy(alloc)?))
+        }
+    }
+}
