@@ -27,6 +27,7 @@ impl Model for CallSet {
 }
 
 impl CallSet {
+    /// No numbers. Takes no memory.
     pub fn new(alloc: Global) -> CallSet
         ensures { result ≡ set.empty }
     {
@@ -35,6 +36,7 @@ impl CallSet {
         }
     }
 
+    /// These numbers. Its one refusal is want of memory.
     pub fn of(alloc: Global, calls: &[u64]) -> Result<CallSet, AllocError>
         ensures { IfOk result (λ named. named ≡ set.from_list calls.now) }
     {
@@ -43,6 +45,7 @@ impl CallSet {
         })
     }
 
+    /// Whether a number is among them.
     pub fn contains(&self, call: u64) -> bool
         ensures { result ≡ set.contains self.now call }
     {

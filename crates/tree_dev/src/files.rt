@@ -37,6 +37,7 @@ impl Model for Files {
 }
 
 impl Files {
+    /// No entries. Takes no memory.
     pub fn new(alloc: Global) -> Files
         ensures { result ≡ map.empty }
     {
@@ -45,18 +46,22 @@ impl Files {
         }
     }
 
+    /// The entry at a path; None for the root, which has none.
     pub fn get(&self, at: &Path) -> Option<&Entry>
         ensures { option_copied result ≡ map.get self.now at.now }
     {
         self.entries.get(at)
     }
 
+    /// Whether an entry is at a path.
     pub fn contains(&self, at: &Path) -> bool
         ensures { result ≡ map.contains_key self.now at.now }
     {
         self.get(at).is_some()
     }
 
+    /// Puts an entry at a path, in place of what was there. Its one refusal is want of memory, which comes
+    /// too where there would be 2^32 entries, and changes nothing.
     pub fn insert(&mut self, at: Path, entry: Entry) -> Result<(), AllocError>
         ensures ok { OnOk result (self.new ≡ map.insert self.old at entry) }
         ensures few { OnOk result (map.len self.new < 2 ^ 32) }
@@ -69,6 +74,7 @@ impl Files {
         Ok(())
     }
 
+    /// Takes away the entry at a path, if one is there.
     pub fn remove(&mut self, at: &Path)
         ensures { self.new ≡ map.remove self.old at.now }
     {

@@ -1,6 +1,7 @@
 //! The bytes of an open file.
 
 ghost use Rattle.std.specs.Prelude.{◌≤◌, length, IfOk};
+ghost use Rattle.tree_std.specs.Reading.{IsBounded};
 
 use path_name::Text;
 use std::alloc::{AllocError, Global};
@@ -58,7 +59,9 @@ pub fn bytes_of<F: Read + Drop>(
     file: F,
     len: u64,
     most: u64,
-) -> Result<ReadAnswer, Trouble> {
+) -> Result<ReadAnswer, Trouble>
+    ensures { IfOk result (IsBounded most) }
+{
     let mut file = file;
     let room = len.min(most).saturating_add(1);
     let mut bytes = vec![in alloc; 0; room as usize]?;

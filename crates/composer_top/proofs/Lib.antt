@@ -1,0 +1,16 @@
+pub mod Literals
+pub mod Stripping
+pub mod Printing
+pub mod Scanning
+pub mod Expressions
+pub mod Folders
+pub mod TableRows
+pub mod PrefixKeys
+pub mod FileTexts
+pub mod FirstFiles
+pub mod Groups
+pub mod Prefixes
+pub mod TwoWords
+pub mod OneTable
+pub mod OneAnswer
+pub mod Sinks

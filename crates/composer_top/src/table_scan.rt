@@ -1,0 +1,12 @@
+//! The tables that the autoloader reads.
+
+mod laws;
+mod literal;
+mod pieces;
+mod print;
+mod scan;
+mod types;
+
+pub use laws::one_table_a_text;
+pub use scan::read;
+pub use types::{PrefixRow, TableFault, TableFile, TableTexts, Tables};

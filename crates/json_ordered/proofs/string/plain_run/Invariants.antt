@@ -1,0 +1,13 @@
+use Rattle.std.proofs.Common.{length, take, ◌-◌, ◌≡◌, ◌≤◌, true}
+use Rattle.std.specs.List.{list_all}
+use Rattle.json_ordered.specs.Json.{is_plain}
+use Rattle.json_ordered.proofs.string.plain_run.Given as goal
+
+abbrev pub invariant-loop-len : goal.invariant-loop-len
+invariant-loop-len l = record {
+  within : l.len ≤ length l.text;
+  plain : list_all is_plain (take l.len l.text) ≡ true;
+}
+
+abbrev pub decreases-loop-len : goal.decreases-loop-len
+decreases-loop-len l = length l.text - l.len

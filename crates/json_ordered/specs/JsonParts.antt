@@ -1,0 +1,27 @@
+-- What a value is, and the parts of it.
+use Rattle.std.specs.Prelude.{ℕ, Bool, true, false, List, Option, Some, None}
+use Rattle.json_ordered.specs.JsonTree.{JsonTree, Null, Boolean, Number, String, Array, Object}
+
+abbrev pub is_null : JsonTree → Bool
+is_null Null = true
+is_null _ = false
+
+abbrev pub boolean_in : JsonTree → Option Bool
+boolean_in (Boolean b) = Some b
+boolean_in _ = None
+
+abbrev pub number_in : JsonTree → Option (List ℕ)
+number_in (Number text) = Some text
+number_in _ = None
+
+abbrev pub string_in : JsonTree → Option (List ℕ)
+string_in (String text) = Some text
+string_in _ = None
+
+abbrev pub IsNoArray : JsonTree → Type 0
+IsNoArray (Array _) = ⊥
+IsNoArray _ = Unit {0}
+
+abbrev pub IsNoObject : JsonTree → Type 0
+IsNoObject (Object _) = ⊥
+IsNoObject _ = Unit {0}

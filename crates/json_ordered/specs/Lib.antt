@@ -1,0 +1,12 @@
+pub mod JsonTree
+pub mod Json
+pub mod JsonReading
+pub mod JsonFaults
+pub mod Docs
+pub mod JsonStarts
+pub mod JsonSteps
+pub mod JsonFrames
+pub mod JsonParts
+pub mod JsonNames
+pub mod JsonEquality
+pub mod JsonPlaces

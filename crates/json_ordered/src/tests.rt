@@ -1,0 +1,612 @@
+use super::*;
+use std::process::Abort;
+use std::test::*;
+
+// A document as a short text: strings as they are, `n`, `t` and `f` for the words, numbers behind `#`.
+fn show(out: &mut Vec<u8>, doc: &Doc) -> Result<(), Fail> {
+    match doc {
+        Doc::Null => out.push(b'n')?,
+        Doc::Bool(true) => out.push(b't')?,
+        Doc::Bool(false) => out.push(b'f')?,
+        Doc::Num(text) => {
+            out.push(b'#')?;
+            out.extend_from_slice(text.as_slice())?;
+        }
+        Doc::Str(text) => {
+            out.push(b'\'')?;
+            out.extend_from_slice(text.as_slice())?;
+            out.push(b'\'')?;
+        }
+        Doc::List(items) => {
+            out.push(b'(')?;
+            for item in items {
+                show(out, item)?;
+                out.push(b';')?;
+            }
+            out.push(b')')?;
+        }
+        Doc::Obj(members) => {
+            out.push(b'{')?;
+            for (name, value) in members {
+                out.extend_from_slice(name.as_slice())?;
+                out.push(b'=')?;
+                show(out, value)?;
+                out.push(b';')?;
+            }
+            out.push(b'}')?;
+        }
+    }
+    Ok(())
+}
+
+#[derive(Drop)]
+struct Read {
+    text: &'static [u8],
+    shown: &'static [u8],
+}
+
+// The texts that have a value, with that value.
+const READ: [Read; 40] = [
+    Read {
+        text: b"null",
+        shown: b"n",
+    },
+    Read {
+        text: b"true",
+        shown: b"t",
+    },
+    Read {
+        text: b"false",
+        shown: b"f",
+    },
+    Read {
+        text: b" \t\r\n null \n",
+        shown: b"n",
+    },
+    Read {
+        text: b"0",
+        shown: b"#0",
+    },
+    Read {
+        text: b"-0",
+        shown: b"#-0",
+    },
+    Read {
+        text: b"10",
+        shown: b"#10",
+    },
+    Read {
+        text: b"-12.50",
+        shown: b"#-12.50",
+    },
+    Read {
+        text: b"1e5",
+        shown: b"#1e5",
+    },
+    Read {
+        text: b"1E+05",
+        shown: b"#1E+05",
+    },
+    Read {
+        text: b"0.0e-00",
+        shown: b"#0.0e-00",
+    },
+    Read {
+        text: b"123456789012345678901234567890",
+        shown: b"#123456789012345678901234567890",
+    },
+    Read {
+        text: b"\"\"",
+        shown: b"''",
+    },
+    Read {
+        text: b"\"a b\"",
+        shown: b"'a b'",
+    },
+    Read {
+        text: b"\"\\\"\\\\\\/\"",
+        shown: b"'\"\\/'",
+    },
+    Read {
+        text: b"\"\\b\\f\\n\\r\\t\"",
+        shown: b"'\x08\x0c\n\r\t'",
+    },
+    Read {
+        text: b"\"\\u0041\\u00e9\\u20AC\"",
+        shown: b"'A\xc3\xa9\xe2\x82\xac'",
+    },
+    Read {
+        text: b"\"\\u0000\"",
+        shown: b"'\x00'",
+    },
+    Read {
+        text: b"\"\\ud83d\\ude00\"",
+        shown: b"'\xf0\x9f\x98\x80'",
+    },
+    Read {
+        text: b"\"\\uD800\\uDC00\"",
+        shown: b"'\xf0\x90\x80\x80'",
+    },
+    Read {
+        text: b"\"\\udbff\\udfff\"",
+        shown: b"'\xf4\x8f\xbf\xbf'",
+    },
+    Read {
+        text: b"\"\\ud7ff\\ue000\"",
+        shown: b"'\xed\x9f\xbf\xee\x80\x80'",
+    },
+    Read {
+        text: b"\"\xc3\xa9\x7f\"",
+        shown: b"'\xc3\xa9\x7f'",
+    },
+    Read {
+        text: b"[]",
+        shown: b"()",
+    },
+    Read {
+        text: b"[ ]",
+        shown: b"()",
+    },
+    Read {
+        text: b"[1]",
+        shown: b"(#1;)",
+    },
+    Read {
+        text: b"[ 1 , \"a\" , [ ] ]",
+        shown: b"(#1;'a';();)",
+    },
+    Read {
+        text: b"[[[]],{}]",
+        shown: b"(((););{};)",
+    },
+    Read {
+        text: b"[0,-1]",
+        shown: b"(#0;#-1;)",
+    },
+    Read {
+        text: b"{}",
+        shown: b"{}",
+    },
+    Read {
+        text: b"{ }",
+        shown: b"{}",
+    },
+    Read {
+        text: b"{\"a\":1}",
+        shown: b"{a=#1;}",
+    },
+    Read {
+        text: b"{ \"a\" : null , \"\" : [ ] }",
+        shown: b"{a=n;=();}",
+    },
+    // A repeated name keeps its first place and takes its last value, whatever spells it.
+    Read {
+        text: b"{\"a\":1,\"b\":2,\"a\":3}",
+        shown: b"{a=#3;b=#2;}",
+    },
+    Read {
+        text: b"{\"a\":1,\"b\":2,\"\\u0061\":[],\"b\":4,\"a\":5}",
+        shown: b"{a=#5;b=#4;}",
+    },
+    Read {
+        text: b"{\"x\":{\"a\":1,\"a\":2},\"y\":{\"a\":3}}",
+        shown: b"{x={a=#2;};y={a=#3;};}",
+    },
+    Read {
+        text: b"{\"extra\":{\"a\":{},\"b\":{\"0\":1,\"1\":2},\"a\":3}}",
+        shown: b"{extra={a=#3;b={0=#1;1=#2;};};}",
+    },
+    Read {
+        text: b"{\"require\":{\"a/b\":\"^1.0\"},\"name\":\"x/y\"}",
+        shown: b"{require={a/b='^1.0';};name='x/y';}",
+    },
+    Read {
+        text: b"{\"c\":1,\"b\":2,\"a\":3}",
+        shown: b"{c=#1;b=#2;a=#3;}",
+    },
+    Read {
+        text: b"\"\\uFFFF\"",
+        shown: b"'\xef\xbf\xbf'",
+    },
+];
+
+#[derive(Drop)]
+struct Refused {
+    text: &'static [u8],
+    fault: JsonFault,
+}
+
+// The texts that have none, with the fault and its place.
+const REFUSED: [Refused; 60] = [
+    Refused {
+        text: b"",
+        fault: JsonFault::Syntax(0),
+    },
+    Refused {
+        text: b"  ",
+        fault: JsonFault::Syntax(2),
+    },
+    Refused {
+        text: b"{\"a\":1,}",
+        fault: JsonFault::Syntax(7),
+    },
+    Refused {
+        text: b"[1,]",
+        fault: JsonFault::Syntax(3),
+    },
+    Refused {
+        text: b"[,1]",
+        fault: JsonFault::Syntax(1),
+    },
+    Refused {
+        text: b"{,}",
+        fault: JsonFault::Syntax(1),
+    },
+    Refused {
+        text: b"[1 2]",
+        fault: JsonFault::Syntax(3),
+    },
+    Refused {
+        text: b"{\"a\" 1}",
+        fault: JsonFault::Syntax(5),
+    },
+    Refused {
+        text: b"{\"a\":}",
+        fault: JsonFault::Syntax(5),
+    },
+    Refused {
+        text: b"{a:1}",
+        fault: JsonFault::Syntax(1),
+    },
+    Refused {
+        text: b"{1:1}",
+        fault: JsonFault::Syntax(1),
+    },
+    Refused {
+        text: b"{\"a\":1 \"b\":2}",
+        fault: JsonFault::Syntax(7),
+    },
+    Refused {
+        text: b"{\"a\":1]",
+        fault: JsonFault::Syntax(6),
+    },
+    Refused {
+        text: b"[1}",
+        fault: JsonFault::Syntax(2),
+    },
+    Refused {
+        text: b"]",
+        fault: JsonFault::Syntax(0),
+    },
+    Refused {
+        text: b"1 1",
+        fault: JsonFault::Syntax(2),
+    },
+    Refused {
+        text: b"null null",
+        fault: JsonFault::Syntax(5),
+    },
+    Refused {
+        text: b"[]]",
+        fault: JsonFault::Syntax(2),
+    },
+    Refused {
+        text: b"nulL",
+        fault: JsonFault::Syntax(3),
+    },
+    Refused {
+        text: b"True",
+        fault: JsonFault::Syntax(0),
+    },
+    Refused {
+        text: b"truex",
+        fault: JsonFault::Syntax(4),
+    },
+    Refused {
+        text: b"fals3",
+        fault: JsonFault::Syntax(4),
+    },
+    Refused {
+        text: b"01",
+        fault: JsonFault::Syntax(1),
+    },
+    Refused {
+        text: b"-01",
+        fault: JsonFault::Syntax(2),
+    },
+    Refused {
+        text: b"+1",
+        fault: JsonFault::Syntax(0),
+    },
+    Refused {
+        text: b".5",
+        fault: JsonFault::Syntax(0),
+    },
+    Refused {
+        text: b"1.",
+        fault: JsonFault::Syntax(2),
+    },
+    Refused {
+        text: b"1.e5",
+        fault: JsonFault::Syntax(2),
+    },
+    Refused {
+        text: b"-",
+        fault: JsonFault::Syntax(1),
+    },
+    Refused {
+        text: b"-a",
+        fault: JsonFault::Syntax(1),
+    },
+    Refused {
+        text: b"1e",
+        fault: JsonFault::Syntax(2),
+    },
+    Refused {
+        text: b"1e+",
+        fault: JsonFault::Syntax(3),
+    },
+    Refused {
+        text: b"1e5.0",
+        fault: JsonFault::Syntax(3),
+    },
+    Refused {
+        text: b"0x10",
+        fault: JsonFault::Syntax(1),
+    },
+    Refused {
+        text: b"[1.5.5]",
+        fault: JsonFault::Syntax(4),
+    },
+    Refused {
+        text: b"NaN",
+        fault: JsonFault::Syntax(0),
+    },
+    Refused {
+        text: b"Infinity",
+        fault: JsonFault::Syntax(0),
+    },
+    Refused {
+        text: b"\"",
+        fault: JsonFault::Syntax(1),
+    },
+    Refused {
+        text: b"\"a",
+        fault: JsonFault::Syntax(2),
+    },
+    Refused {
+        text: b"\"a\nb\"",
+        fault: JsonFault::Syntax(2),
+    },
+    Refused {
+        text: b"\"\x1f\"",
+        fault: JsonFault::Syntax(1),
+    },
+    Refused {
+        text: b"'a'",
+        fault: JsonFault::Syntax(0),
+    },
+    Refused {
+        text: b"\"\\x\"",
+        fault: JsonFault::Syntax(2),
+    },
+    Refused {
+        text: b"\"\\u12g4\"",
+        fault: JsonFault::Syntax(5),
+    },
+    Refused {
+        text: b"\"\\u123\"",
+        fault: JsonFault::Syntax(6),
+    },
+    // A low half alone ends at the digit that makes it one; a high half wants the other half.
+    Refused {
+        text: b"\"\\udc00\"",
+        fault: JsonFault::Syntax(4),
+    },
+    Refused {
+        text: b"\"\\uDFFF\"",
+        fault: JsonFault::Syntax(4),
+    },
+    Refused {
+        text: b"\"\\ud800\"",
+        fault: JsonFault::Syntax(7),
+    },
+    Refused {
+        text: b"\"\\ud800x\"",
+        fault: JsonFault::Syntax(7),
+    },
+    Refused {
+        text: b"\"\\ud800\\n\"",
+        fault: JsonFault::Syntax(8),
+    },
+    Refused {
+        text: b"\"\\ud800\\u0041\"",
+        fault: JsonFault::Syntax(9),
+    },
+    Refused {
+        text: b"\"\\ud800\\ud800\"",
+        fault: JsonFault::Syntax(10),
+    },
+    Refused {
+        text: b"\xef\xbb\xbf{}",
+        fault: JsonFault::Syntax(0),
+    },
+    Refused {
+        text: b"[\xc3\xa9]",
+        fault: JsonFault::Syntax(1),
+    },
+    // What is not UTF-8 comes first, also behind another fault.
+    Refused {
+        text: b"\xff",
+        fault: JsonFault::NotUtf8(0),
+    },
+    Refused {
+        text: b"{\"a\":1,}\x80",
+        fault: JsonFault::NotUtf8(8),
+    },
+    Refused {
+        text: b"\"ab\xc3\"",
+        fault: JsonFault::NotUtf8(3),
+    },
+    Refused {
+        text: b"\"\xed\xa0\x80\"",
+        fault: JsonFault::NotUtf8(1),
+    },
+    Refused {
+        text: b"\"\xe2\x82",
+        fault: JsonFault::NotUtf8(1),
+    },
+    Refused {
+        text: b"\"\xc0\xaf\"",
+        fault: JsonFault::NotUtf8(1),
+    },
+];
+
+#[derive(Drop)]
+struct Pair {
+    first: &'static [u8],
+    second: &'static [u8],
+    same: bool,
+}
+
+// Whether two texts have one value: blanks and escapes don't count, the order of names and the spelling
+// of a number do.
+const PAIRS: [Pair; 10] = [
+    Pair {
+        first: b"[1,{\"a\":null}]",
+        second: b" [ 1 , { \"\\u0061\" : null } ] ",
+        same: true,
+    },
+    Pair {
+        first: b"{\"a\":1,\"a\":2}",
+        second: b"{\"a\":2}",
+        same: true,
+    },
+    Pair {
+        first: b"{\"a\":1,\"b\":2}",
+        second: b"{\"b\":2,\"a\":1}",
+        same: false,
+    },
+    Pair {
+        first: b"1.0",
+        second: b"1.00",
+        same: false,
+    },
+    Pair {
+        first: b"\"1\"",
+        second: b"1",
+        same: false,
+    },
+    Pair {
+        first: b"[]",
+        second: b"{}",
+        same: false,
+    },
+    Pair {
+        first: b"[1]",
+        second: b"[1,1]",
+        same: false,
+    },
+    Pair {
+        first: b"[1,[2]]",
+        second: b"[1,[3]]",
+        same: false,
+    },
+    Pair {
+        first: b"{\"a\":[]}",
+        second: b"{\"b\":[]}",
+        same: false,
+    },
+    Pair {
+        first: b"true",
+        second: b"false",
+        same: false,
+    },
+];
+
+// The parts of a document: `{"list":[null,true,"text",-1.5]}`.
+fn look(rt: &impl Abort, doc: &Doc) -> Result<(), Fail> {
+    let members = doc.as_obj().ok_or("an object")?;
+    assert_eq!(rt; members.len(), 1);
+    for (name, value) in members {
+        assert_eq!(rt; name.as_slice(), b"list".as_slice());
+        let items = value.as_list().ok_or("a list")?;
+        assert_eq!(rt; items.len(), 4);
+        assert!(rt; items[0].is_null());
+        assert_eq!(rt; items[1].as_bool(), Some(true));
+        assert_eq!(rt; items[2].as_str(), Some(b"text".as_slice()));
+        assert_eq!(rt; items[3].as_num(), Some(b"-1.5".as_slice()));
+        assert!(rt; items[3].as_str().is_none() && items[3].as_list().is_none());
+    }
+    Ok(())
+}
+
+#[test]
+fn values_and_faults(rt: HostRuntime) -> Result<(), Fail> {
+    for row in &READ {
+        let doc = read(rt.alloc(), row.text).ok().ok_or("no value")?;
+        let mut shown = Vec::new(rt.alloc());
+        show(&mut shown, &doc)?;
+        assert_eq!(rt; shown.as_slice(), row.shown);
+    }
+    for row in &REFUSED {
+        match read(rt.alloc(), row.text) {
+            Ok(_) => return Err(Fail::from("a value")),
+            Err(fault) => assert_eq!(rt; fault, row.fault),
+        }
+    }
+    for row in &PAIRS {
+        let first = read(rt.alloc(), row.first).ok().ok_or("no first value")?;
+        let second = read(rt.alloc(), row.second).ok().ok_or("no second value")?;
+        assert_eq!(rt; first == second, row.same);
+    }
+    let doc = read(rt.alloc(), b"{\"list\":[null,true,\"text\",-1.5]}").ok();
+    look(&rt, &doc.ok_or("no document")?)
+}
+
+// Each of these begins a JSON text at each of its lengths, so what is cut faults at its end.
+const CUT: [&[u8]; 8] = [
+    b"[null",
+    b"[true",
+    b"[false",
+    b"\"a\\n\\u00e9\\ud83d\\ude00",
+    b"{\"a\":{\"b\":[1,-2.5e+7,",
+    b" [ 1 , { \"x\" : \"\\\\\" } , ",
+    b"-",
+    b"[1.",
+];
+
+#[test]
+fn cut_texts(rt: HostRuntime) -> Result<(), Fail> {
+    for text in &CUT {
+        for len in 0..text.len() + 1 {
+            match read(rt.alloc(), text.split_at(len).0) {
+                Ok(_) => return Err(Fail::from("a value")),
+                Err(fault) => assert_eq!(rt; fault, JsonFault::Syntax(len as u64)),
+            }
+        }
+    }
+    Ok(())
+}
+
+#[test]
+fn levels(rt: HostRuntime) -> Result<(), Fail> {
+    let open = vec![in rt.alloc(); b'['; 129]?;
+    assert!(rt; matches!(read(rt.alloc(), &open), Err(JsonFault::TooDeep(128))));
+    let mut closed = vec![in rt.alloc(); b'['; 128]?;
+    for _ in 0..128u8 {
+        closed.push(b']')?;
+    }
+    assert!(rt; read(rt.alloc(), &closed).is_ok());
+    // The object counts as a level, and a fault further left comes first.
+    let mut inside = vec![in rt.alloc()]?;
+    inside.extend_from_slice(b"{\"a\":")?;
+    inside.extend_from_slice(&closed)?;
+    inside.push(b'}')?;
+    assert!(rt; matches!(read(rt.alloc(), &inside), Err(JsonFault::TooDeep(132))));
+    let mut early = vec![in rt.alloc()]?;
+    early.extend_from_slice(b"[,")?;
+    early.extend_from_slice(&open)?;
+    assert!(rt; matches!(read(rt.alloc(), &early), Err(JsonFault::Syntax(1))));
+    Ok(())
+}
