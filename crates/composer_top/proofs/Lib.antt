@@ -1,3 +1,4 @@
+pub mod Options
 pub mod Literals
 pub mod Stripping
 pub mod Printing

@@ -7,7 +7,8 @@ use Rattle.composer_top.specs.declared.table_scan.types.PrefixRow.{PrefixRow}
 use Rattle.composer_top.specs.TableGrammar.{IsBelow, AreFolders, HasFolders, IsTable, closed, head_text, row_start, row_arrow, row_end, tail_text, folders_between, vendor_start, base_start, vendor_name, path_expression, folders_text, row_text, opened_row, psr4_text}
 use Rattle.composer_top.specs.TableReading.{unquoted}
 use Rattle.composer_top.proofs.Literals.{unquoted-closed}
-use Rattle.composer_top.proofs.Scanning.{path_of-join, same_ok, some_is}
+use Rattle.composer_top.proofs.Scanning.{path_of-join, same_ok}
+use Rattle.composer_top.proofs.Options.{some_is}
 use Rattle.composer_top.proofs.Expressions.{form_of, starts_apart}
 use Rattle.composer_top.proofs.Folders.{after_first, between_is_no_end}
 use Rattle.composer_top.proofs.TableRows.{row_opened, row_is_no_end}

@@ -1,5 +1,5 @@
 -- What is printed of a table is read.
-use Rattle.std.proofs.Common.{◌≡◌, ℕ, true, List, [], ◌∷◌, Option, Some, None, Result, Ok, Err, ◌≢◌, refl, sym, ◌∙◌}
+use Rattle.std.proofs.Common.{◌≡◌, ℕ, true, List, [], ◌∷◌, Result, Ok, Err, ◌≢◌, refl, sym, ◌∙◌}
 use Rattle.std.specs.List.{join_with_byte}
 use Rattle.std.specs.Str.{is_utf8, chars}
 use Rattle.path_name.specs.Paths.{IsPath, is_clean, path_of}
@@ -29,9 +29,3 @@ same_ok text a b p q = inside a b (sym p ∙ q)
   where
     inside : (x y : List (List ℕ)) → ◌≡◌ {A = Result (List (List ℕ)) PathFault} (Ok x) (Ok y) → x ≡ y
     inside x y e = cc
-
-pub none_is_no_some : {X : Type 0} (x : X) → ◌≡◌ {A = Option X} None (Some x) → ⊥
-none_is_no_some x e = absurd cc
-
-pub some_is : {X : Type 0} (x y : X) → ◌≡◌ {A = Option X} (Some x) (Some y) → x ≡ y
-some_is x y e = cc

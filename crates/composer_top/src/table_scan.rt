@@ -3,7 +3,6 @@
 mod laws;
 mod literal;
 mod pieces;
-mod print;
 mod scan;
 mod types;
 

@@ -170,7 +170,7 @@ fn answers(alloc: Global) -> Result<Vec<Row>, Fail> {
     Ok(rows)
 }
 
-fn refusals(alloc: Global) -> Result<Vec<Row>, Fail> {
+fn word_refusals(alloc: Global) -> Result<Vec<Row>, Fail> {
     let mut rows = Vec::new(alloc);
     rows.push(refused(&ALL, "", 2, USAGE))?;
     rows.push(refused(&ALL, "lookup", 2, USAGE))?;
@@ -181,6 +181,11 @@ fn refusals(alloc: Global) -> Result<Vec<Row>, Fail> {
     rows.push(refused(&ALL, "lookup App\\", 2, BAD_NAME))?;
     rows.push(refused(&ALL, "lookup \\\\App\\Home", 2, BAD_NAME))?;
     rows.push(refused(&CLASS_MAP, "lookup App\\1", 2, BAD_NAME))?;
+    Ok(rows)
+}
+
+fn table_refusals(alloc: Global) -> Result<Vec<Row>, Fail> {
+    let mut rows = Vec::new(alloc);
     rows.push(refused(&NONE, HOME, 14, b"error: no autoload_psr4.php\n"))?;
     rows.push(refused(&PHP, HOME, 13, PSR4_NOT_OFFERED))?;
     rows.push(refused(&BLANK, HOME, 13, PSR4_NOT_OFFERED))?;
@@ -327,7 +332,10 @@ fn first_path(rt: HostRuntime) -> Result<(), Fail> {
     for row in &answers(rt.alloc())? {
         disturbed(&rt, rt.alloc(), row)?;
     }
-    for row in &refusals(rt.alloc())? {
+    for row in &word_refusals(rt.alloc())? {
+        disturbed(&rt, rt.alloc(), row)?;
+    }
+    for row in &table_refusals(rt.alloc())? {
         disturbed(&rt, rt.alloc(), row)?;
     }
     Ok(())

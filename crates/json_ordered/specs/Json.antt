@@ -7,11 +7,11 @@ use Rattle.std.specs.Str.{IsUtf8}
 use Rattle.path_name.specs.Bytes.{is_blank, is_digit, is_between}
 use Rattle.json_ordered.specs.JsonTree.{JsonTree, Null, Boolean, Number, String, array_of, object_of, put_all}
 
--- ws, section 2: any count of space, tab, LF and CR
+-- ws: any count of space, tab, LF and CR
 abbrev pub IsBlanks : List ℕ → Type 0
 IsBlanks text = list_all is_blank text ≡ true
 
--- ---- numbers, section 6: [ minus ] int [ frac ] [ exp ]
+-- ---- numbers: [ minus ] int [ frac ] [ exp ]
 
 abbrev pub IsDigits : List ℕ → Type 0
 IsDigits text = list_all is_digit text ≡ true
@@ -57,7 +57,7 @@ pub record IsNumber (text : List ℕ) : Type 0 where
   pub is_exp : IsExp exp
   pub parts : text ≡ minus ++ (int ++ (frac ++ exp))
 
--- ---- strings, section 7
+-- ---- strings
 
 -- a byte that stands for itself: all but `"`, `\` and those below space; past ASCII a byte of some character
 abbrev pub is_plain : ℕ → Bool
@@ -103,7 +103,7 @@ pub data IsChars : List ℕ → List ℕ → Type 0 where
   pair : (high low : Quad) {spelled value : List ℕ} → is_quad high ≡ true → is_high_surrogate (unit_of high) ≡ true → is_quad low ≡ true → is_low_surrogate (unit_of low) ≡ true
       → IsChars spelled value → IsChars (spelled_unit high (spelled_unit low spelled)) (encode_utf8 (surrogate_pair_char (unit_of high) (unit_of low)) ++ value)
 
--- ---- values, sections 3 to 5
+-- ---- values
 
 -- The first number is how many levels of arrays and objects may be open inside. An array is `[`, items
 -- with `,` between them, `]`; an object is `{`, members with `,` between them, `}`; a member is a string,
@@ -139,7 +139,7 @@ mutual
     next_member : {levels : ℕ} (before after text more : List ℕ) {m : List ℕ × JsonTree} {ms : List (List ℕ × JsonTree)}
         → IsBlanks before → IsBlanks after → IsMember levels text m → IsMoreMembers levels more ms → IsMoreMembers levels (before ++ 44 ∷ (after ++ (text ++ more))) (m ∷ ms)
 
--- JSON-text, sections 2 and 8.1: UTF-8, a value with blanks round it
+-- JSON-text: UTF-8, a value with blanks round it
 pub record IsJsonOf (levels : ℕ) (text : List ℕ) (tree : JsonTree) : Type 0 where
   pub before : List ℕ
   pub value : List ℕ

@@ -11,27 +11,6 @@ const QUOTE: u8 = b'\'';
 
 const ESCAPE: u8 = b'\\';
 
-/// Writes the text and its closing quote.
-pub fn put_closed(out: &mut Vec<u8>, text: &[u8]) -> Result<(), AllocError>
-    ensures { OnOk result (out.new.items ≡ out.old.items ++ closed text.now) }
-{
-    for byte in text {
-        put_byte(out, *byte)?;
-    }
-    out.push(QUOTE)?;
-    Ok(())
-}
-
-fn put_byte(out: &mut Vec<u8>, byte: u8) -> Result<(), AllocError>
-    ensures { OnOk result (out.new.items ≡ out.old.items ++ escaped (byte ∷ [])) }
-{
-    if byte == ESCAPE || byte == QUOTE {
-        out.push(ESCAPE)?;
-    }
-    out.push(byte)?;
-    Ok(())
-}
-
 /// The text up to its closing quote, and what follows that quote.
 pub fn closed_text(alloc: Global, text: &[u8]) -> Result<Option<(Vec<u8>, &[u8])>, AllocError>
     ensures exact { IfOk result (λ read. seen (λ bytes. bytes.items) read ≡ unquoted text.now) }
@@ -55,11 +34,11 @@ pub fn closed_text(alloc: Global, text: &[u8]) -> Result<Option<(Vec<u8>, &[u8])
 
 /// Where a run of plain bytes stops.
 enum Stop<'a> {
-    /// At the text's end, or at a `\` with nothing behind it.
+    /// At the text's end, or at a `\` that stands before neither `\` nor `'`.
     End,
     /// At a `'`, with what follows it.
     Quote(&'a [u8]),
-    /// At a `\`, with the byte that it stands before, and what follows.
+    /// At a `\`, with the `\` or `'` that it stands before, and what follows.
     Escape(u8, &'a [u8]),
 }
 
@@ -86,7 +65,13 @@ fn escape_of(text: &[u8]) -> Stop<'_>
 {
     match text.split_first() {
         None => Stop::End,
-        Some((byte, rest)) => Stop::Escape(*byte, rest),
+        Some((byte, rest)) => {
+            if *byte == ESCAPE || *byte == QUOTE {
+                Stop::Escape(*byte, rest)
+            } else {
+                Stop::End
+            }
+        }
     }
 }
 

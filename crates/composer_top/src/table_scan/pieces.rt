@@ -1,9 +1,7 @@
 //! The parts of a table that do not depend on its rows.
 
-ghost use Rattle.std.specs.Prelude.{◌≡◌, ◌++◌, ◌+◌, List, ℕ, length, MatchOption, IfSome, OnOk};
+ghost use Rattle.std.specs.Prelude.{◌≡◌, ◌++◌, List, ℕ, MatchOption};
 ghost use Rattle.composer_top.specs.Pieces.{piece_text};
-
-use std::alloc::AllocError;
 
 /// A part of a table's text.
 #[derive(Clone, Copy)]
@@ -44,14 +42,6 @@ fn bytes_of(piece: Piece) -> &'static [u8]
         Piece::VendorStart => b"$vendorDir . '/",
         Piece::BaseStart => b"$baseDir . '/",
     }
-}
-
-/// Writes a part.
-pub fn put(out: &mut Vec<u8>, piece: Piece) -> Result<(), AllocError>
-    ensures { OnOk result (out.new.items ≡ out.old.items ++ piece_text piece) }
-{
-    out.extend_from_slice(bytes_of(piece))?;
-    Ok(())
 }
 
 /// What follows a part at the front of a text. None where the text does not begin with it.

@@ -4,17 +4,16 @@ ghost use Rattle.std.specs.Prelude.{◌≡◌, ◌≢◌, ◌++◌, ◌<◌, ◌
 ghost use Rattle.std.specs.List.{flat_map, join_with_byte, IsDistinct};
 ghost use Rattle.std.specs.Option.{option_map};
 ghost use Rattle.path_name.specs.Orders.{bytes_are_equal};
-ghost use Rattle.path_name.specs.Paths.{IsPath, BeginsWith};
+ghost use Rattle.path_name.specs.Paths.{IsPath, BeginsWith, IsBehind};
 ghost use Rattle.composer_top.specs.TableGrammar.{IsBelow, AreFolders, HasFolders, IsRow, IsTable, closed, opened_row, is_whole, path_expression, folders_text, row_text, psr4_text as table_text, row_arrow, row_end, tail_text, vendor_name, HoldsRows, SaysNoTable};
 ghost use Rattle.path_name.specs.Given.{Gives};
 ghost use Rattle.composer_top.specs.declared.table_scan.types.TableFault.TheVariants.{OutOfMemory};
-ghost use Rattle.composer_top.specs.TableReading.{seen, IsRead};
+ghost use Rattle.composer_top.specs.TableReading.{seen, IsRead, IsClosedPath};
 ghost use Rattle.composer_top.specs.declared.table_scan.types.PrefixRow.{PrefixRow};
 
 use crate::places;
 use crate::table_scan::literal::closed_text;
 use crate::table_scan::pieces::{Piece, strip};
-use crate::table_scan::print::psr4_text;
 use crate::table_scan::{PrefixRow, TableFault, TableFile, TableTexts, Tables};
 use path_name::{Items, Name, Path, PathFault};
 use std::alloc::{AllocError, Global};
@@ -29,28 +28,85 @@ fn path_below<'a>(
     ensures written { (segments : List (List ℕ)) (tail : List ℕ) → IsPath segments → text.now ≡ closed (join_with_byte 47 segments) ++ tail
         → IfOk result (λ read. seen (λ path. path) read ≡ Some (head.now ++ segments, tail)) }
     ensures below { IfOk result (λ read. IfSome read (λ x. IsBelow head.now x.0)) }
+    ensures printed { IfOk result (λ read. IfSome read (λ x. IsClosedPath head.now x.0 text.now x.1.now)) }
     ensures shorter { IfOk result (λ read. IfSome read (λ x. length x.1.now < length text.now)) }
 {
-    match closed_text(alloc, text)? {
+    let Some((bytes, rest)) = closed_text(alloc, text)? else {
+        return Ok(None);
+    };
+    match below_text(alloc, bytes.as_slice(), head)? {
         None => Ok(None),
-        Some((bytes, rest)) => match below_text(alloc, bytes.as_slice(), head)? {
-            None => Ok(None),
-            Some(path) => Ok(Some((path, rest))),
-        },
+        Some(path) => Ok(Some((path, rest))),
     }
 }
 
-/// A path below `head` by the text behind it. None where the text names no path.
+/// Whether the text joins the segments of a path behind those of `head`.
+fn is_behind(path: &Path, text: &[u8], head: &Path) -> bool
+    ensures { IsTrue result ↔ IsBehind path.now head.now text.now }
+{
+    match path.below(head) {
+        None => false,
+        Some(rest) => rest == text,
+    }
+}
+
+/// The path below `head`. None where the text does not join the segments behind the head.
+fn path_joined(
+    alloc: Global,
+    path: &Path,
+    text: &[u8],
+    head: &Path,
+) -> Result<Option<Path>, AllocError>
+    ensures written { text.now ≡ join_with_byte 47 path.now → IfOk result (λ read. read ≡ Some (head.now ++ path.now)) }
+    ensures below { IfOk result (λ read. IfSome read (IsBelow head.now)) }
+    ensures printed { IfOk result (λ read. IfSome read (λ path. IsBehind path head.now text.now)) }
+{
+    let joined = head.join(alloc, path)?;
+    if is_behind(&joined, text, head) {
+        Ok(Some(joined))
+    } else {
+        Ok(None)
+    }
+}
+
+/// A path below `head` by the text behind it. None where the text joins no path's segments.
 fn below_text(alloc: Global, text: &[u8], head: &Path) -> Result<Option<Path>, AllocError>
     ensures written { (segments : List (List ℕ)) → IsPath segments → text.now ≡ join_with_byte 47 segments
         → IfOk result (λ read. read ≡ Some (head.now ++ segments)) }
     ensures below { IfOk result (λ read. IfSome read (IsBelow head.now)) }
+    ensures printed { IfOk result (λ read. IfSome read (λ path. IsBehind path head.now text.now)) }
 {
     match Path::read(alloc, text) {
-        Ok(path) => Ok(Some(head.join(alloc, &path)?)),
+        Ok(path) => path_joined(alloc, &path, text, head),
         Err(PathFault::OutOfMemory) => Err(AllocError),
         Err(PathFault::BadSegment(_)) => Ok(None),
         Err(PathFault::AboveRoot(_)) => Ok(None),
+    }
+}
+
+/// A path below the project and outside its vendor folder, and what follows its closing quote.
+fn path_outside<'a>(
+    alloc: Global,
+    text: &'a [u8],
+    project: &Path,
+    vendor: &Path,
+) -> Result<Option<(Path, &'a [u8])>, AllocError>
+    ensures written { (segments : List (List ℕ)) (tail : List ℕ) → IsPath segments → (BeginsWith (project.now ++ segments) vendor.now → ⊥)
+        → text.now ≡ closed (join_with_byte 47 segments) ++ tail → IfOk result (λ read. seen (λ path. path) read ≡ Some (project.now ++ segments, tail)) }
+    ensures below { IfOk result (λ read. IfSome read (λ x. IsBelow project.now x.0)) }
+    ensures printed { IfOk result (λ read. IfSome read (λ x. IsClosedPath project.now x.0 text.now x.1.now)) }
+    ensures outside { IfOk result (λ read. IfSome read (λ x. BeginsWith x.0 vendor.now → ⊥)) }
+    ensures shorter { IfOk result (λ read. IfSome read (λ x. length x.1.now < length text.now)) }
+{
+    match path_below(alloc, text, project)? {
+        None => Ok(None),
+        Some((path, rest)) => {
+            if path.starts_with(vendor) {
+                Ok(None)
+            } else {
+                Ok(Some((path, rest)))
+            }
+        }
     }
 }
 
@@ -65,6 +121,7 @@ fn folder_at<'a>(
     ensures written { (folder : List (List ℕ)) (tail : List ℕ) → IsBelow project.now folder → text.now ≡ path_expression project.now folder ++ tail
         → IfOk result (λ read. seen (λ path. path) read ≡ Some (folder, tail)) }
     ensures below { IfOk result (λ read. IfSome read (λ x. IsBelow project.now x.0)) }
+    ensures printed { IfOk result (λ read. IfSome read (λ x. text.now ≡ path_expression project.now x.0 ++ x.1.now)) }
     ensures shorter { IfOk result (λ read. IfSome read (λ x. length x.1.now < length text.now)) }
 {
     if let Some(rest) = strip(text, Piece::VendorStart) {
@@ -72,7 +129,7 @@ fn folder_at<'a>(
     }
     match strip(text, Piece::BaseStart) {
         None => Ok(None),
-        Some(rest) => path_below(alloc, rest, project),
+        Some(rest) => path_outside(alloc, rest, project, vendor),
     }
 }
 
@@ -88,27 +145,27 @@ fn folders_at<'a>(
     ensures written { (folders : List (List (List ℕ))) (tail : List ℕ) → AreFolders project.now folders
         → text.now ≡ folders_text project.now folders ++ (row_end ++ tail) → IfOk result (λ read. seen (λ paths. paths.items) read ≡ Some (folders, tail)) }
     ensures below { IfOk result (λ read. IfSome read (λ x. AreFolders project.now x.0.items)) }
+    ensures printed { IfOk result (λ read. IfSome read (λ x. text.now ≡ folders_text project.now x.0.items ++ (row_end ++ x.1.now))) }
     ensures shorter { IfOk result (λ read. IfSome read (λ x. length x.1.now < length text.now)) }
 {
     let mut folders = Vec::new(alloc);
     let mut rest = text;
     loop {
-        match folder_at(alloc, rest, project, vendor)? {
-            None => return Ok(None),
-            Some((folder, after)) => {
-                folders.push(folder)?;
-                match strip(after, Piece::Between) {
-                    Some(next) => rest = next,
-                    None => return Ok(row_ended(folders, after)),
-                }
-            }
-        }
+        let Some((folder, after)) = folder_at(alloc, rest, project, vendor)? else {
+            return Ok(None);
+        };
+        folders.push(folder)?;
+        let Some(next) = strip(after, Piece::Between) else {
+            return Ok(row_ended(folders, after));
+        };
+        rest = next;
     }
 }
 
 fn row_ended(folders: Vec<Path>, text: &[u8]) -> Option<(Vec<Path>, &[u8])>
     ensures written { (tail : List ℕ) → text.now ≡ row_end ++ tail → seen (λ paths. paths.items) result ≡ Some (folders.items, tail) }
     ensures same { IfSome result (λ x. x.0.items ≡ folders.items) }
+    ensures printed { IfSome result (λ x. text.now ≡ row_end ++ x.1.now) }
     ensures within { IfSome result (λ x. length x.1.now ≤ length text.now) }
 {
     match strip(text, Piece::RowEnd) {
@@ -128,21 +185,20 @@ fn row_at<'a>(
     ensures written { (row : PrefixRow) (tail : List ℕ) → AreFolders project.now row.folders → text.now ≡ opened_row project.now row tail
         → IfOk result (λ read. seen (λ row. row) read ≡ Some (row, tail)) }
     ensures below { IfOk result (λ read. IfSome read (λ x. AreFolders project.now x.0.folders)) }
+    ensures printed { IfOk result (λ read. IfSome read (λ x. text.now ≡ opened_row project.now x.0 x.1.now)) }
     ensures shorter { IfOk result (λ read. IfSome read (λ x. length x.1.now < length text.now)) }
 {
-    match closed_text(alloc, text)? {
-        None => Ok(None),
-        Some((prefix, after)) => match folders_behind(alloc, after, project, vendor)? {
-            None => Ok(None),
-            Some((folders, rest)) => {
-                let row = PrefixRow {
-                    prefix: Name::of(prefix),
-                    folders: Items::of(folders),
-                };
-                Ok(Some((row, rest)))
-            }
-        },
-    }
+    let Some((prefix, after)) = closed_text(alloc, text)? else {
+        return Ok(None);
+    };
+    let Some((folders, rest)) = folders_behind(alloc, after, project, vendor)? else {
+        return Ok(None);
+    };
+    let row = PrefixRow {
+        prefix: Name::of(prefix),
+        folders: Items::of(folders),
+    };
+    Ok(Some((row, rest)))
 }
 
 /// The folders of a row behind its prefix, and what follows the row.
@@ -156,6 +212,7 @@ fn folders_behind<'a>(
     ensures written { (folders : List (List (List ℕ))) (tail : List ℕ) → AreFolders project.now folders
         → text.now ≡ row_arrow ++ (folders_text project.now folders ++ (row_end ++ tail)) → IfOk result (λ read. seen (λ paths. paths.items) read ≡ Some (folders, tail)) }
     ensures below { IfOk result (λ read. IfSome read (λ x. AreFolders project.now x.0.items)) }
+    ensures printed { IfOk result (λ read. IfSome read (λ x. text.now ≡ row_arrow ++ (folders_text project.now x.0.items ++ (row_end ++ x.1.now)))) }
     ensures shorter { IfOk result (λ read. IfSome read (λ x. length x.1.now < length text.now)) }
 {
     match strip(text, Piece::RowArrow) {
@@ -175,30 +232,30 @@ fn rows_at(
     ensures written { (rows : List PrefixRow) → All (HasFolders project.now) rows → text.now ≡ flat_map (row_text project.now) rows ++ tail_text
         → IfOk result (λ read. IsRead (λ found. found.items) read rows) }
     ensures below { IfOk result (λ read. IfSome read (λ found. All (HasFolders project.now) found.items)) }
+    ensures printed { IfOk result (λ read. IfSome read (λ found. text.now ≡ flat_map (row_text project.now) found.items ++ tail_text)) }
 {
     let mut rows = Vec::new(alloc);
     let mut rest = text;
     loop {
-        match strip(rest, Piece::RowStart) {
-            None => return Ok(table_ended(rows, rest)),
-            Some(inner) => match row_at(alloc, inner, project, vendor)? {
-                None => return Ok(None),
-                Some((row, after)) => {
-                    rows.push(row)?;
-                    rest = after;
-                }
-            },
-        }
+        let Some(inner) = strip(rest, Piece::RowStart) else {
+            return Ok(table_ended(rows, rest));
+        };
+        let Some((row, after)) = row_at(alloc, inner, project, vendor)? else {
+            return Ok(None);
+        };
+        rows.push(row)?;
+        rest = after;
     }
 }
 
 fn table_ended(rows: Vec<PrefixRow>, text: &[u8]) -> Option<Vec<PrefixRow>>
     ensures written { text.now ≡ tail_text → IsRead (λ found. found.items) result rows.items }
     ensures same { IfSome result (λ found. found.items ≡ rows.items) }
+    ensures printed { IfSome result (λ _. text.now ≡ tail_text) }
 {
     match strip(text, Piece::Tail) {
         None => None,
-        Some(_rest) => Some(rows),
+        Some(rest) => { if rest.is_empty() { Some(rows) } else { None } }
     }
 }
 
@@ -244,38 +301,28 @@ fn psr4_rows(
     ensures only { (rows : List PrefixRow) → IsTable project.now rows → text.now ≡ table_text project.now rows
         → IfOk result (λ read. IsRead (λ found. found.items) read rows) }
 {
-    match strip(text, Piece::Head) {
-        None => Ok(None),
-        Some(body) => match rows_at(alloc, body, project, vendor)? {
-            None => Ok(None),
-            Some(rows) => {
-                if is_printed(alloc, text, rows.as_slice(), project, vendor)? {
-                    Ok(Some(rows))
-                } else {
-                    Ok(None)
-                }
-            }
-        },
+    let Some(body) = strip(text, Piece::Head) else {
+        return Ok(None);
+    };
+    let Some(rows) = rows_at(alloc, body, project, vendor)? else {
+        return Ok(None);
+    };
+    if is_table(alloc, rows.as_slice(), project)? {
+        Ok(Some(rows))
+    } else {
+        Ok(None)
     }
 }
 
-/// Whether the rows are those of a table, and the text is the one that is printed of them.
-fn is_printed(
-    alloc: Global,
-    text: &[u8],
-    rows: &[PrefixRow],
-    project: &Path,
-    vendor: &Path,
-) -> Result<bool, AllocError>
-    requires vendor { vendor.now ≡ project.now ++ vendor_name ∷ [] }
+/// Whether the rows are those of a table. Their folders are.
+fn is_table(alloc: Global, rows: &[PrefixRow], project: &Path) -> Result<bool, AllocError>
     requires below { All (HasFolders project.now) rows.now }
-    ensures { IfOk result (λ printed. IsTrue printed ↔ (IsTable project.now rows.now × (text.now ≡ table_text project.now rows.now))) }
+    ensures { IfOk result (λ is. IsTrue is ↔ IsTable project.now rows.now) }
 {
-    if !are_whole(rows) || !are_distinct(alloc, rows)? {
+    if !are_whole(rows) {
         return Ok(false);
     }
-    let printed = psr4_text(alloc, rows, project, vendor)?;
-    Ok(printed.as_slice() == text)
+    are_distinct(alloc, rows)
 }
 
 /// The tables of these texts. A text that is None gives no rows. The text of `autoload_psr4.php` is read

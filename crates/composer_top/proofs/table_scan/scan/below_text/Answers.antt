@@ -1,12 +1,12 @@
-use Rattle.std.proofs.Common.{◌++◌, Some, ap, ◌∙◌}
+use Rattle.std.proofs.Common.{sym, ap, ◌∙◌}
 use Rattle.path_name.specs.Paths.{path_of}
 use Rattle.composer_top.proofs.Scanning.{path_of-join, no_fault, same_ok}
 use Rattle.composer_top.proofs.table_scan.scan.below_text.Goals as goal
 
-pub returns-in_ok-join-in-Ok-clause-written : goal.returns-in_ok-join-in-Ok-clause-written
-returns-in_ok-join-in-Ok-clause-written c = λ segments path e.
+pub returns-in-Ok-clause-written : goal.returns-in-Ok-clause-written
+returns-in-Ok-clause-written c = λ segments path e.
     let same = same_ok c.args.text.now c.in-Ok.path segments c.in-Ok.ensures.exact (ap path_of e ∙ path_of-join segments path) in
-    ap Some (c.in_ok-join-in-Ok.ensures ∙ ap (λ p. c.args.head.now ++ p) same)
+    rw (sym same) (c.path_joined.ensures.written (rw same e))
 
 pub returns-in-Err-BadSegment-clause-written : goal.returns-in-Err-BadSegment-clause-written
 returns-in-Err-BadSegment-clause-written c = λ segments path e.

@@ -5,11 +5,12 @@ use Rattle.composer_top.specs.TableGrammar.{HasFolders, tail_text, row_text}
 use Rattle.composer_top.proofs.TableRows.{LeftRows}
 use Rattle.composer_top.proofs.table_scan.scan.rows_at.Given as goal
 
-abbrev pub invariant-loop-rows : goal.invariant-loop-rows
-invariant-loop-rows l = record {
+abbrev pub invariant-loop-inner : goal.invariant-loop-inner
+invariant-loop-inner l = record {
+  so_far : l.text ≡ flat_map (row_text l.project) l.rows.items ++ l.rest;
   below : All (HasFolders l.project) l.rows.items;
   written : (rows : List PrefixRow) → All (HasFolders l.project) rows → l.text ≡ flat_map (row_text l.project) rows ++ tail_text → LeftRows l.project l.rows.items l.rest rows;
 }
 
-abbrev pub decreases-loop-rows : goal.decreases-loop-rows
-decreases-loop-rows l = length l.rest
+abbrev pub decreases-loop-inner : goal.decreases-loop-inner
+decreases-loop-inner l = length l.rest
