@@ -18,7 +18,8 @@ use tree_dev::{Failed, Kind, ReadAnswer, Tree, TreeFault};
 
 /// The files below the current folder: `FolderTree::new(&rt)`. It tells no tree. A path is looked up by
 /// its text, as the system does it: a link at its end is not followed, and is of kind Other. Each error
-/// of the system is a fault, but for a path at which nothing is, also where an entry above is no folder.
+/// of the system is a fault, but for a path at which nothing is, also where an entry above is no folder or
+/// a name is longer than the system has names.
 /// A contract sees the count of faults, which stands still at its last value, 2^64 - 1.
 #[derive(Drop)]
 pub struct FolderTree<'a, R> {

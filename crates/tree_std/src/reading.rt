@@ -12,7 +12,7 @@ use tree_dev::ReadAnswer;
 /// Why a look at the disk has no answer.
 #[derive(Clone, Copy)]
 pub enum Trouble {
-    /// Nothing is at the path.
+    /// Nothing is at the path, or its name is longer than the system has names.
     Absent,
     /// Memory ran out.
     OutOfMemory,
@@ -23,7 +23,9 @@ pub enum Trouble {
 impl From<io::Error> for Trouble {
     fn from(error: io::Error) -> Trouble {
         match error.kind() {
-            ErrorKind::NotFound | ErrorKind::NotADirectory => Trouble::Absent,
+            ErrorKind::NotFound | ErrorKind::NotADirectory | ErrorKind::InvalidFilename => {
+                Trouble::Absent
+            }
             ErrorKind::OutOfMemory => Trouble::OutOfMemory,
             _ => Trouble::Failed,
         }

@@ -10,6 +10,9 @@ use tree_dev::{Kind, ReadAnswer, Sink, Tree};
 
 const FOLDER: &str = "folder_tree_test";
 
+/// A longer name than a file can have.
+static LONG_NAME: [u8; 300] = [b'x'; 300];
+
 /// Makes a folder with a file, an empty file, a folder with a file in it, and a link to each kind.
 fn make_folder(rt: &HostRuntime) -> io::Result<()> {
     let _ = fs::remove_dir_all(rt, FOLDER);
@@ -93,6 +96,7 @@ fn rows(alloc: Global) -> Result<Vec<Row>, Fail> {
         9,
         ReadAnswer::Absent,
     ))?;
+    rows.push(expected(&LONG_NAME, Kind::Absent, 9, ReadAnswer::Absent))?;
     rows.push(expected(
         b"folder_tree_test/none/below",
         Kind::Absent,
