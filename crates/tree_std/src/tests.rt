@@ -26,97 +26,99 @@ fn make_folder(rt: &HostRuntime) -> io::Result<()> {
     symlink(rt, "nowhere", "folder_tree_test/to_none")
 }
 
-/// A path, what stands there, how many bytes are allowed, and what reading it answers.
-#[derive(Drop)]
-struct Row {
-    path: &'static [u8],
-    kind: Kind,
-    most: u64,
-    answer: ReadAnswer,
+/// What is expected of reading.
+#[derive(Clone, Copy)]
+enum Expected {
+    Bytes(&'static [u8]),
+    Absent,
+    NotFile,
+    TooLong,
 }
 
-fn expected(path: &'static [u8], kind: Kind, most: u64, answer: ReadAnswer) -> Row {
-    Row {
-        path,
-        kind,
-        most,
-        answer,
-    }
-}
-
-fn bytes(alloc: Global, content: &[u8]) -> Result<ReadAnswer, Fail> {
-    Ok(ReadAnswer::Bytes(Text::of(Vec::from_slice(alloc, content)?)))
-}
-
-fn rows(alloc: Global) -> Result<Vec<Row>, Fail> {
-    let mut rows = Vec::new(alloc);
-    rows.push(expected(b".", Kind::Folder, 9, ReadAnswer::NotFile))?;
-    rows.push(expected(b"folder_tree_test", Kind::Folder, 9, ReadAnswer::NotFile))?;
-    rows.push(expected(
+/// Paths, what stands there, how many bytes are allowed, and what reading answers.
+const LOOKS: [(&[u8], Kind, u64, Expected); 14] = [
+    (b".", Kind::Folder, 9, Expected::NotFile),
+    (b"folder_tree_test", Kind::Folder, 9, Expected::NotFile),
+    (
         b"folder_tree_test/file",
         Kind::File,
         4,
-        bytes(alloc, b"a\0b\xff")?,
-    ))?;
-    rows.push(expected(b"folder_tree_test/file", Kind::File, 3, ReadAnswer::TooLong))?;
-    rows.push(expected(b"folder_tree_test/empty", Kind::File, 0, bytes(alloc, b"")?))?;
-    rows.push(expected(
-        b"folder_tree_test/sub",
-        Kind::Folder,
-        9,
-        ReadAnswer::NotFile,
-    ))?;
-    rows.push(expected(
+        Expected::Bytes(b"a\0b\xff"),
+    ),
+    (b"folder_tree_test/file", Kind::File, 3, Expected::TooLong),
+    (
+        b"folder_tree_test/empty",
+        Kind::File,
+        0,
+        Expected::Bytes(b""),
+    ),
+    (b"folder_tree_test/sub", Kind::Folder, 9, Expected::NotFile),
+    (
         b"folder_tree_test/sub/in",
         Kind::File,
         u64::MAX,
-        bytes(alloc, b"inside")?,
-    ))?;
-    rows.push(expected(
+        Expected::Bytes(b"inside"),
+    ),
+    (
         b"folder_tree_test/to_file",
         Kind::Other,
         9,
-        ReadAnswer::NotFile,
-    ))?;
-    rows.push(expected(
+        Expected::NotFile,
+    ),
+    (
         b"folder_tree_test/to_sub",
         Kind::Other,
         9,
-        ReadAnswer::NotFile,
-    ))?;
-    rows.push(expected(
+        Expected::NotFile,
+    ),
+    (
         b"folder_tree_test/to_none",
         Kind::Other,
         9,
-        ReadAnswer::NotFile,
-    ))?;
-    rows.push(expected(
-        b"folder_tree_test/none",
-        Kind::Absent,
-        9,
-        ReadAnswer::Absent,
-    ))?;
-    rows.push(expected(&LONG_NAME, Kind::Absent, 9, ReadAnswer::Absent))?;
-    rows.push(expected(
+        Expected::NotFile,
+    ),
+    (b"folder_tree_test/none", Kind::Absent, 9, Expected::Absent),
+    (
         b"folder_tree_test/none/below",
         Kind::Absent,
         9,
-        ReadAnswer::Absent,
-    ))?;
-    rows.push(expected(
+        Expected::Absent,
+    ),
+    (
         b"folder_tree_test/file/below",
         Kind::Absent,
         9,
-        ReadAnswer::Absent,
-    ))?;
-    Ok(rows)
+        Expected::Absent,
+    ),
+    (
+        b"folder_tree_test/sub/file",
+        Kind::Absent,
+        9,
+        Expected::Absent,
+    ),
+];
+
+fn answer(alloc: Global, expected: Expected) -> Result<ReadAnswer, Fail> {
+    match expected {
+        Expected::Bytes(bytes) => Ok(ReadAnswer::Bytes(Text::of(Vec::from_slice(alloc, bytes)?))),
+        Expected::Absent => Ok(ReadAnswer::Absent),
+        Expected::NotFile => Ok(ReadAnswer::NotFile),
+        Expected::TooLong => Ok(ReadAnswer::TooLong),
+    }
 }
 
-fn look(rt: &impl Abort, alloc: Global, tree: &mut impl Tree, row: &Row) -> Result<(), Fail> {
-    let path = Path::read(alloc, row.path)?;
-    let want = row.kind;
-    assert_eq!(rt; tree.stat(&path)?, want);
-    assert_eq!(rt; tree.read(alloc, &path, row.most)?, row.answer);
+fn look(
+    rt: &impl Abort,
+    alloc: Global,
+    tree: &mut impl Tree,
+    path: &[u8],
+    kind: Kind,
+    most: u64,
+    expected: Expected,
+) -> Result<(), Fail> {
+    let path = Path::read(alloc, path)?;
+    assert_eq!(rt; tree.stat(&path)?, kind);
+    assert_eq!(rt; tree.read(alloc, &path, most)?, answer(alloc, expected)?);
     Ok(())
 }
 
@@ -128,9 +130,18 @@ fn print(out: &mut impl Sink, piece: &[u8]) -> bool {
 fn reads_a_real_folder(rt: HostRuntime) -> Result<(), Fail> {
     make_folder(&rt)?;
     let mut tree = FolderTree::new(&rt);
-    for row in &rows(rt.alloc())? {
-        look(&rt, rt.alloc(), &mut tree, row)?;
+    for (path, kind, most, expected) in LOOKS {
+        look(&rt, rt.alloc(), &mut tree, path, kind, most, expected)?;
     }
+    look(
+        &rt,
+        rt.alloc(),
+        &mut tree,
+        &LONG_NAME,
+        Kind::Absent,
+        9,
+        Expected::Absent,
+    )?;
     fs::remove_dir_all(&rt, FOLDER)?;
     assert!(rt; print(&mut StdSink::new(rt.stdout()), b"a line\n"));
     assert!(rt; print(&mut StdSink::new(rt.stderr()), b"another line\n"));
