@@ -1,6 +1,7 @@
 //! The bytes of an open file.
 
-ghost use Rattle.std.specs.Prelude.{◌≤◌, length, IfOk};
+ghost use Rattle.std.specs.Prelude.{◌≡◌, ◌≤◌, length, IfOk};
+ghost use Rattle.tree_std.specs.declared.reading.Trouble.TheVariants.{OutOfMemory};
 ghost use Rattle.tree_std.specs.Reading.{IsBounded};
 
 use path_name::Text;
@@ -21,6 +22,11 @@ pub enum Trouble {
 }
 
 impl From<io::Error> for Trouble {
+    ghost use Rattle.std.specs.IoError.{error_kind};
+    ghost use Rattle.tree_std.specs.Reading.{trouble_of};
+
+    ghost from_gives = { λ error e. e ≡ trouble_of (error_kind error) };
+
     fn from(error: io::Error) -> Trouble {
         match error.kind() {
             ErrorKind::NotFound | ErrorKind::NotADirectory | ErrorKind::InvalidFilename => {
@@ -33,6 +39,8 @@ impl From<io::Error> for Trouble {
 }
 
 impl From<AllocError> for Trouble {
+    ghost from_gives = { λ _ e. e ≡ OutOfMemory };
+
     fn from(_error: AllocError) -> Trouble {
         Trouble::OutOfMemory
     }

@@ -8,9 +8,10 @@ ghost use Rattle.version_norm.specs.VersionOrder.{IsNumbered, four_numbers, stag
 use crate::version::{Modifier, Numbered, Numbers, Stage, Version};
 use std::cmp::Ordering;
 
-/// The order of two versions that are no branches (Composer documentation, "Versions and constraints"): by the four numbers, then by the rank (a dev mark without
-/// a modifier, alpha, beta, RC, no modifier, patch), then by what follows the modifier, where the dev mark is
-/// below the end and the end below every number. Takes no memory.
+/// The order of two versions that are no branches (Composer documentation, "Versions and constraints"): by the
+/// four numbers, then by the rank (a dev mark without a modifier, alpha, beta, RC, no modifier, patch), then by
+/// what follows the modifier, where the dev mark is below the end and the end below every number. Takes no
+/// memory.
 pub fn compare(a: &Version, b: &Version) -> Ordering
     requires first { IsNumbered a.now }
     requires second { IsNumbered b.now }
