@@ -170,11 +170,24 @@ segments_of-appended [] (x ∷ xs) h = split_whole (x ∷ xs) (segment_facts (x 
 segments_of-appended (y ∷ ys) segment h =
     ap split (append_assoc (y ∷ ys) (47 ∷ []) segment) ∙ split_at (y ∷ ys) segment ∙ ap (λ back. split (y ∷ ys) ++ back) (split_whole segment (segment_facts segment h).whole)
 
+-- what was there is still in front of what sets it off
+pub front_of-set_off : (joined : List ℕ) → take (length joined) (set_off joined) ≡ joined
+front_of-set_off [] = refl
+front_of-set_off (x ∷ xs) = take_at (x ∷ xs) (47 ∷ []) (length (x ∷ xs)) refl
+
+pub set_off_some : (joined : List ℕ) → 0 < length joined → set_off joined ≡ joined ++ 47 ∷ []
+set_off_some [] h = absurd (omega arith)
+set_off_some (x ∷ xs) h = refl
+
 -- two texts of segments, joined
 pub segments_of-joined : (head tail : List ℕ) → 0 < length head → 0 < length tail → segments_of ((head ++ 47 ∷ []) ++ tail) ≡ segments_of head ++ segments_of tail
 segments_of-joined [] tail h t = absurd (omega arith)
 segments_of-joined (x ∷ xs) [] h t = absurd (omega arith)
 segments_of-joined (x ∷ xs) (y ∷ ys) h t = ap split (append_assoc (x ∷ xs) (47 ∷ []) (y ∷ ys)) ∙ split_at (x ∷ xs) (y ∷ ys)
+
+pub first_of : (joined first : List ℕ) (rest : Option (Bor (List ℕ))) → 0 < length joined → MatchOption rest (split joined ≡ first ∷ []) (λ after. split joined ≡ first ∷ split after.now) → BeginsWith (segments_of joined) (first ∷ [])
+first_of joined first None some parts = ([], segments_of-split joined some ∙ parts)
+first_of joined first (Some after) some parts = (split after.now, segments_of-split joined some ∙ parts)
 
 pub last_of_one : (joined : List ℕ) → 0 < length joined → has_no_slash joined ≡ true → EndsWith (segments_of joined) joined
 last_of_one joined some h = ([], segments_of-split joined some ∙ split_whole joined h)

@@ -12,6 +12,11 @@ abbrev pub parts_left : ℕ → Option (Bor (List ℕ)) → List (ℕ × List �
 parts_left n None = []
 parts_left n (Some left) = placed (n - length left.now) (split left.now)
 
+-- the segments that are left
+abbrev pub segments_left : Option (Bor (List ℕ)) → List (List ℕ)
+segments_left None = []
+segments_left (Some left) = split left.now
+
 abbrev pub IsLeft : ℕ → Option (Bor (List ℕ)) → Type 0
 IsLeft n None = Unit {0}
 IsLeft n (Some left) = length left.now ≤ n

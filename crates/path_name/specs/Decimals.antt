@@ -1,5 +1,5 @@
 -- Numbers as decimal digits.
-use Rattle.std.specs.Prelude.{◌≡◌, ℕ, ◌<◌, ◌^◌, List, [], ◌∷◌, Bool, false, ◌&&◌}
+use Rattle.std.specs.Prelude.{◌≡◌, ℕ, ◌<◌, ◌^◌, List, [], ◌∷◌, Bool, false, ◌&&◌, nat_lt, Option, Some, None, if◌then◌else◌}
 use Rattle.std.specs.List.{list_all}
 use Rattle.std.specs.Fmt.{decimal}
 use Rattle.std.specs.Str.Parse.{digits_value}
@@ -14,6 +14,10 @@ is_number (first ∷ rest) = is_digit first && list_all is_digit rest
 -- the number that digits stand for, leading zeros or not
 abbrev pub number_of : List ℕ → ℕ
 number_of digits = digits_value 10 digits
+
+-- the number below 2^64 that a text of digits alone stands for
+unfoldable pub number_in : List ℕ → Option ℕ
+number_in text = if is_number text && nat_lt (number_of text) (2 ^ 64) then Some (number_of text) else None
 
 -- a number's digits without leading zeros, `0` for 0
 abbrev pub decimal_text : ℕ → List ℕ

@@ -47,6 +47,10 @@ BeginsWith path head = (rest : List (List ℕ)) × (path ≡ head ++ rest)
 abbrev pub IsBehind : List (List ℕ) → List (List ℕ) → List ℕ → Type 0
 IsBehind path head text = (rest : List (List ℕ)) × (path ≡ head ++ rest) × (text ≡ join_with_byte 47 rest)
 
+-- the segments behind those of one head, behind another head
+abbrev pub IsMoved : List (List ℕ) → List (List ℕ) → List (List ℕ) → List (List ℕ) → Type 0
+IsMoved path from to moved = (rest : List (List ℕ)) × (path ≡ from ++ rest) × (moved ≡ to ++ rest)
+
 -- the path's last segment
 abbrev pub EndsWith : List (List ℕ) → List ℕ → Type 0
 EndsWith path segment = (front : List (List ℕ)) × (path ≡ front ++ segment ∷ [])
@@ -82,3 +86,7 @@ read_parts step before (part ∷ parts) = step before part >>= λ after. read_pa
 -- the path that a text names, or its fault
 unfoldable pub path_of : List ℕ → Result (List (List ℕ)) PathFault
 path_of text = read_parts path_step [] (parts_of text)
+
+-- the path that a text leads to from another one, or its fault
+unfoldable pub followed : List (List ℕ) → List ℕ → Result (List (List ℕ)) PathFault
+followed start text = read_parts path_step start (parts_of text)

@@ -1,8 +1,9 @@
 //! A `Vec` that contracts see as the list of its items.
 
-ghost use Rattle.std.specs.Prelude.{◌≡◌};
+ghost use Rattle.std.specs.Prelude.{◌≡◌, ◌↔◌, [], IsTrue};
 ghost use Rattle.std.specs.Cmp.Lexicographic.{pointwise, lists_per, lists_equiv};
 
+use std::alloc::Global;
 use std::marker::Model;
 
 /// A list of items, in order. A contract sees the list and not the memory that holds it, so a copy
@@ -24,6 +25,15 @@ impl<X> Model for Items<X> {
 }
 
 impl<X> Items<X> {
+    /// The list without items. Takes no memory.
+    pub fn empty(alloc: Global) -> Items<X>
+        ensures { result ≡ [] }
+    {
+        Items {
+            items: Vec::new(alloc),
+        }
+    }
+
     /// The list of what `items` holds. Takes no memory.
     pub fn of(items: Vec<X>) -> Items<X>
         ensures { result ≡ items.items }
@@ -36,6 +46,13 @@ impl<X> Items<X> {
         ensures { result.now ≡ self.now }
     {
         self.items.as_slice()
+    }
+
+    /// Whether there are no items.
+    pub fn is_empty(&self) -> bool
+        ensures { IsTrue result ↔ (self.now ≡ []) }
+    {
+        self.items.is_empty()
     }
 
     /// The items as a `Vec`. Takes no memory.

@@ -1,12 +1,13 @@
 //! Segments joined by `/`, as a `Path` keeps them: nothing for the root.
 
-ghost use Rattle.std.specs.Prelude.{◌≡◌, ℕ, List, false, ◌+◌, ◌<◌, ◌≤◌, ◌↔◌, [], ◌∷◌, ◌++◌, length, take, drop, MatchOption, IfOk, OnOk, IsTrue, Some, None, if◌then◌else◌, not, slice_index, ◌≢◌, ◌==◌};
+ghost use Rattle.std.specs.Prelude.{◌≡◌, ℕ, List, false, ◌+◌, ◌<◌, ◌≤◌, ◌↔◌, [], ◌∷◌, ◌++◌, length, take, drop, MatchOption, IfOk, OnOk, OnErr, IsTrue, Some, None, if◌then◌else◌, not, slice_index, ◌≢◌, ◌==◌};
 ghost use Rattle.std.specs.Str.{is_utf8};
 ghost use Rattle.std.specs.List.{slice_split, list_all, count_by};
 ghost use Rattle.path_name.specs.Orders.{path_cmp};
 ghost use Rattle.path_name.specs.Paths.{is_slash, has_no_slash, is_clean, is_here, is_above, is_segment, IsPath, BeginsWith, EndsWith, without_last, entered};
 ghost use Rattle.path_name.specs.Joined.{segments_of, rank, joined_cmp, set_off, IsSetOff, IsRestOf, IsAncestor, HasNoSlash, IsSlashAt};
 
+use crate::Name;
 use std::alloc::{AllocError, Global};
 use std::cmp::Ordering;
 
@@ -72,6 +73,20 @@ fn is_above_part(part: &[u8]) -> bool
     part == [b'.', b'.'].as_slice()
 }
 
+fn has_no_slash_in(part: &[u8]) -> bool
+    ensures { result ≡ has_no_slash part.now }
+{
+    part.iter().all(|byte| *byte != SLASH)
+}
+
+/// Whether a name can be a segment of a path: UTF-8 without a NUL and a `/`, and neither empty nor `.`
+/// nor `..`.
+pub fn is_segment(name: &[u8]) -> bool
+    ensures { result ≡ is_segment name.now }
+{
+    is_clean_part(name) && has_no_slash_in(name) && !is_here_part(name) && !is_above_part(name)
+}
+
 /// How long the text without its last segment is. None where there is no segment.
 pub fn parent_len(joined: &[u8]) -> Option<usize>
     requires { IsPath (segments_of joined.now) }
@@ -125,7 +140,7 @@ pub fn enter(joined: &mut Vec<u8>, part: &[u8]) -> Result<bool, AllocError>
 }
 
 /// Takes the last segment away. False: there is none.
-fn leave_last(joined: &mut Vec<u8>) -> bool
+pub fn leave_last(joined: &mut Vec<u8>) -> bool
     requires { IsPath (segments_of joined.old.items) }
     ensures path { IsPath (segments_of joined.new.items) }
     ensures left { without_last (segments_of joined.old.items)
@@ -141,9 +156,10 @@ fn leave_last(joined: &mut Vec<u8>) -> bool
     }
 }
 
-/// Sets off what is there from what comes next.
+/// Sets off what is there from what comes next. Nothing changed after an Err.
 fn set_off(joined: &mut Vec<u8>) -> Result<(), AllocError>
-    ensures { OnOk result (joined.new.items ≡ set_off joined.old.items) }
+    ensures set_off { OnOk result (joined.new.items ≡ set_off joined.old.items) }
+    ensures kept { OnErr result (joined.new.items ≡ joined.old.items) }
 {
     if !joined.is_empty() {
         joined.push(SLASH)?;
@@ -151,14 +167,36 @@ fn set_off(joined: &mut Vec<u8>) -> Result<(), AllocError>
     Ok(())
 }
 
-/// Adds a segment.
-fn append(joined: &mut Vec<u8>, segment: &[u8]) -> Result<(), AllocError>
+/// Adds a segment. Nothing changed after an Err.
+pub fn append(joined: &mut Vec<u8>, segment: &[u8]) -> Result<(), AllocError>
     requires { IsTrue (is_segment segment.now) }
-    ensures { OnOk result (segments_of joined.new.items ≡ segments_of joined.old.items ++ segment.now ∷ []) }
+    ensures added { OnOk result (segments_of joined.new.items ≡ segments_of joined.old.items ++ segment.now ∷ []) }
+    ensures kept { OnErr result (joined.new.items ≡ joined.old.items) }
 {
+    let len = joined.len();
     set_off(joined)?;
-    joined.extend_from_slice(segment)?;
-    Ok(())
+    match joined.extend_from_slice(segment) {
+        Ok(()) => Ok(()),
+        Err(fault) => {
+            joined.truncate(len);
+            Err(fault)
+        }
+    }
+}
+
+/// The segments of a text and one more, in one allocation.
+pub fn with_segment(alloc: Global, joined: &[u8], segment: &[u8]) -> Result<Vec<u8>, AllocError>
+    requires { IsTrue (is_segment segment.now) }
+    ensures { IfOk result (λ longer. segments_of longer.items ≡ segments_of joined.now ++ segment.now ∷ []) }
+{
+    if joined.is_empty() {
+        return Vec::from_slice(alloc, segment);
+    }
+    let mut longer = Vec::with_capacity(alloc, joined.len() + 1 + segment.len())?;
+    longer.extend_from_slice(joined)?;
+    longer.push(SLASH)?;
+    longer.extend_from_slice(segment)?;
+    Ok(longer)
 }
 
 /// The segments of one text, then those of another, in one allocation.
@@ -247,6 +285,23 @@ fn slashes(joined: &[u8]) -> usize
     joined.iter().filter(|byte| **byte == SLASH).count()
 }
 
+/// The segments, each as a name.
+pub fn segments(alloc: Global, joined: &[u8]) -> Result<Vec<Name>, AllocError>
+    ensures { IfOk result (λ names. names.items ≡ segments_of joined.now) }
+{
+    let mut names = Vec::with_capacity(alloc, count(joined))?;
+    if joined.is_empty() {
+        return Ok(names);
+    }
+    let mut rest = Some(joined);
+    while let Some(left) = rest {
+        let (segment, after) = first_part(left);
+        names.push(Name::copy_of(alloc, segment)?)?;
+        rest = after;
+    }
+    Ok(names)
+}
+
 /// The number of segments.
 pub fn count(joined: &[u8]) -> usize
     ensures { result ≡ length (segments_of joined.now) }
@@ -255,6 +310,16 @@ pub fn count(joined: &[u8]) -> usize
         return 0;
     }
     slashes(joined) + 1
+}
+
+/// The first segment. None where there is none.
+pub fn first(joined: &[u8]) -> Option<&[u8]>
+    ensures { MatchOption result (segments_of joined.now ≡ []) (λ segment. BeginsWith (segments_of joined.now) (segment.now ∷ [])) }
+{
+    if joined.is_empty() {
+        return None;
+    }
+    Some(first_part(joined).0)
 }
 
 /// The last segment. None where there is none.

@@ -1,6 +1,6 @@
 //! Names.
 
-ghost use Rattle.std.specs.Prelude.{◌≡◌, IfOk};
+ghost use Rattle.std.specs.Prelude.{◌≡◌, ◌↔◌, [], IsTrue, IfOk};
 ghost use Rattle.std.proofs.Common.{refl};
 ghost use Rattle.std.specs.Cmp.{partial_equiv_from_equiv};
 ghost use Rattle.std.specs.Ordering.{as_partial_cmp};
@@ -26,6 +26,24 @@ impl Model for Name {
 }
 
 impl Name {
+    /// The name without bytes. Takes no memory.
+    pub fn empty(alloc: Global) -> Name
+        ensures { result ≡ [] }
+    {
+        Name {
+            bytes: Vec::new(alloc),
+        }
+    }
+
+    /// A copy of these bytes. Its one refusal is want of memory.
+    pub fn copy_of(alloc: Global, bytes: &[u8]) -> Result<Name, AllocError>
+        ensures { IfOk result (λ name. name ≡ bytes.now) }
+    {
+        Ok(Name {
+            bytes: Vec::from_slice(alloc, bytes)?,
+        })
+    }
+
     /// The name of these bytes. Takes no memory.
     pub fn of(bytes: Vec<u8>) -> Name
         ensures { result ≡ bytes.items }
@@ -38,6 +56,13 @@ impl Name {
         ensures { result.now ≡ self.now }
     {
         self.bytes.as_slice()
+    }
+
+    /// Whether there are no bytes.
+    pub fn is_empty(&self) -> bool
+        ensures { IsTrue result ↔ (self.now ≡ []) }
+    {
+        self.bytes.is_empty()
     }
 
     /// The bytes as a `Vec`. Takes no memory.

@@ -1,13 +1,13 @@
 //! Paths below a root.
 
-ghost use Rattle.std.specs.Prelude.{◌≡◌, ◌↔◌, ◌++◌, [], length, IsTrue, IfOk, MatchOption, Ok, Some, None, ◌-◌, take, nat_lt, if◌then◌else◌};
+ghost use Rattle.std.specs.Prelude.{◌≡◌, ◌↔◌, ◌++◌, ◌∷◌, [], false, length, IsTrue, IfOk, OnOk, OnErr, MatchOption, Ok, Some, None, ◌-◌, take, nat_lt, if◌then◌else◌};
 ghost use Rattle.std.proofs.Common.{refl};
 ghost use Rattle.std.specs.Cmp.{partial_equiv_from_equiv};
 ghost use Rattle.std.specs.Ordering.{as_partial_cmp};
 ghost use Rattle.path_name.specs.Given.{Gives};
 ghost use Rattle.path_name.specs.Orders.{path_cmp, paths_are_equal, path_cmp_total, path_equality, path_order, path_ties};
 
-use crate::{PathFault, joined, reading};
+use crate::{Name, PathFault, joined, reading};
 use std::alloc::{AllocError, Global};
 use std::cmp::Ordering;
 use std::marker::Model;
@@ -34,7 +34,7 @@ impl Model for Path {
 }
 
 impl Path {
-    ghost use Rattle.path_name.specs.Paths.{IsPath, BeginsWith, IsBehind, EndsWith, path_of, path_text, without_last};
+    ghost use Rattle.path_name.specs.Paths.{is_segment, IsPath, BeginsWith, IsBehind, IsMoved, EndsWith, path_of, followed, path_text, without_last};
     ghost use Rattle.path_name.specs.FolderRefs.{folder_of};
     ghost use Rattle.path_name.specs.declared.fault.PathFault.TheVariants.{OutOfMemory};
 
@@ -59,6 +59,22 @@ impl Path {
         })
     }
 
+    /// The path that a text leads to from here. The text is cut and read as by `read`, after the segments
+    /// of this path, which a `..` may take away. `BadSegment` and `AboveRoot` come as there.
+    pub fn follow(&self, alloc: Global, text: &[u8]) -> Result<Path, PathFault>
+        ensures exact { Gives (λ path. path) OutOfMemory (followed self.now text.now) result }
+    {
+        let joined = reading::followed_segments(alloc, self.joined.as_slice(), text)?;
+        Ok(Path { joined })
+    }
+
+    /// Whether this is the root, which has no segments.
+    pub fn is_root(&self) -> bool
+        ensures { IsTrue result ↔ (self.now ≡ []) }
+    {
+        self.joined.is_empty()
+    }
+
     /// How far up from a project a text leads, and the path from there.
     pub(crate) fn read_folder(alloc: Global, text: &[u8]) -> Result<(u64, Path), PathFault>
         ensures { Gives (λ read. record { up = read.0; path = read.1 }) OutOfMemory (folder_of text.now) result }
@@ -80,12 +96,53 @@ impl Path {
         }
     }
 
+    /// Adds one segment. Its one refusal is want of memory, and then nothing changed.
+    pub fn enter(&mut self, name: &[u8]) -> Result<(), AllocError>
+        requires { IsTrue (is_segment name.now) }
+        ensures entered { OnOk result (self.new ≡ self.old ++ name.now ∷ []) }
+        ensures kept { OnErr result (self.new ≡ self.old) }
+    {
+        joined::append(&mut self.joined, name)
+    }
+
+    /// Takes the last segment away. False: this is the root, and it stays. Takes no memory.
+    pub fn leave(&mut self) -> bool
+        ensures left { without_last self.old ≡ (if result then Some self.new else None) }
+        ensures kept { result ≡ false → self.new ≡ self.old }
+    {
+        joined::leave_last(&mut self.joined)
+    }
+
+    /// This path and one more segment. Its one refusal is want of memory; it allocates once.
+    pub fn child(&self, alloc: Global, name: &[u8]) -> Result<Path, AllocError>
+        requires { IsTrue (is_segment name.now) }
+        ensures { IfOk result (λ path. path ≡ self.now ++ name.now ∷ []) }
+    {
+        let joined = joined::with_segment(alloc, self.joined.as_slice(), name)?;
+        Ok(Path { joined })
+    }
+
     /// This path, followed by another. Its one refusal is want of memory; it allocates once.
     pub fn join(&self, alloc: Global, tail: &Path) -> Result<Path, AllocError>
         ensures { IfOk result (λ path. path ≡ self.now ++ tail.now) }
     {
         let joined = joined::join(alloc, self.joined.as_slice(), tail.joined.as_slice())?;
         Ok(Path { joined })
+    }
+
+    /// Where this path lies once what stands at and below `from` stands at and below `to`: `to`, followed by
+    /// the segments behind those of `from`. None where the segments of `from` are not the first ones of this
+    /// path. Its one refusal is want of memory; it allocates once.
+    pub fn moved(&self, alloc: Global, from: &Path, to: &Path) -> Result<Option<Path>, AllocError>
+        ensures { IfOk result (λ moved. MatchOption moved (BeginsWith self.now from.now → ⊥)
+            (λ path. IsMoved self.now from.now to.now path)) }
+    {
+        match joined::behind(self.joined.as_slice(), from.joined.as_slice()) {
+            None => Ok(None),
+            Some(rest) => Ok(Some(Path {
+                joined: joined::join(alloc, to.joined.as_slice(), rest)?,
+            })),
+        }
     }
 
     /// Whether the segments of `head` are the first ones of this path.
@@ -134,11 +191,25 @@ impl Path {
         }
     }
 
+    /// The first segment; None for the root.
+    pub fn first(&self) -> Option<&[u8]>
+        ensures { MatchOption result (self.now ≡ []) (λ segment. BeginsWith self.now (segment.now ∷ [])) }
+    {
+        joined::first(self.joined.as_slice())
+    }
+
     /// The last segment; None for the root.
     pub fn last(&self) -> Option<&[u8]>
         ensures { MatchOption result (self.now ≡ []) (λ segment. EndsWith self.now segment.now) }
     {
         joined::last(self.joined.as_slice())
+    }
+
+    /// The segments, each as a name. Its one refusal is want of memory.
+    pub fn segments(&self, alloc: Global) -> Result<Vec<Name>, AllocError>
+        ensures { IfOk result (λ names. names.items ≡ self.now) }
+    {
+        joined::segments(alloc, self.joined.as_slice())
     }
 
     /// The number of segments.

@@ -1,13 +1,13 @@
 use Rattle.std.proofs.Common.{◌≡◌, ◌-◌, length, refl, arith}
-use Rattle.path_name.specs.Paths.{path_of}
-use Rattle.path_name.proofs.reading.path_segments.Goals as goal
+use Rattle.path_name.specs.Paths.{followed}
+use Rattle.path_name.proofs.reading.follow_text.Goals as goal
 
 pub loop-rest-init : goal.loop-rest-init
-unfolding path_of
+unfolding followed
 loop-rest-init c =
     let none : length c.args.text.now - length c.args.text.now ≡ 0 = omega arith in
     record {
-      path = rw c.in_ok-joined.ensures.items refl;
+      path = c.requires;
       within = omega arith;
-      rest = rw (c.in_ok-joined.ensures.items, none) refl;
+      rest = rw none refl;
     }
