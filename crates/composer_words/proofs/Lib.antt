@@ -1,0 +1,5 @@
+pub mod IsSimple
+pub mod Numbers
+pub mod RequiredWords
+pub mod Entered
+pub mod Tasks
