@@ -1,5 +1,5 @@
 -- The steps of arrays and objects.
-use Rattle.std.proofs.Common.{◌≡◌, ℕ, suc, ◌+◌, ◌-◌, ◌<◌, ◌≤◌, Bool, true, false, cond, List, [], ◌∷◌, ◌++◌, length, map, Option, None, Result, Ok, Err, refl, sym, ap, subst, ◌∙◌, arith}
+use Rattle.std.proofs.Common.{◌≡◌, ℕ, suc, ◌+◌, ◌-◌, ◌<◌, ◌≤◌, Bool, true, false, cond, List, [], ◌∷◌, ◌++◌, length, map, None, Result, Ok, Err, refl, sym, ap, subst, ◌∙◌, arith}
 use Rattle.std.specs.Prelude.{reverse}
 use Rattle.std.specs.Borrow.{Bor}
 use Rattle.std.specs.Global.{Vec}
@@ -8,6 +8,7 @@ use Rattle.path_name.specs.Orders.{bytes_are_equal}
 use Rattle.indexmap.specs.IndexMap.{insert_entry}
 use Rattle.json_ordered.specs.declared.doc.Doc.{Doc}
 use Rattle.json_ordered.specs.declared.frame.Frame as frames
+use Rattle.json_ordered.specs.declared.step.Step.{Step}
 use Rattle.json_ordered.specs.declared.stop.Stop as stops
 use Rattle.json_ordered.specs.declared.stop.Stop.TheVariants as stop
 use Rattle.json_ordered.specs.JsonTree.{JsonTree, array_of, object_of, put}
@@ -194,7 +195,7 @@ module _ (all : List frames.Frame) (text rest : List ℕ) (s : Skips text rest) 
       (subst (WrongAt (inner all) (In_object done name ∷ stack_of all) (After_value v)) (sym parts) (rw (noblank, eqb_no byte 44 nocomma, eqb_no byte 125 noend) refl)) refl
 
 -- a turn from further along
-pub turn_along : (s t : State) (text rest : List ℕ) (new : List frames.Frame) (result : Result (Option Doc × Bor (List ℕ)) stops.Stop) → read_from s text ≡ read_from t rest → Turn t rest new result → Turn s text new result
+pub turn_along : (s t : State) (text rest : List ℕ) (new : List frames.Frame) (result : Result (Step × Bor (List ℕ)) stops.Stop) → read_from s text ≡ read_from t rest → Turn t rest new result → Turn s text new result
 turn_along s t text rest new (Ok x) same h = same ∙ h
 turn_along s t text rest new (Err e) same h = fails_along e _ _ same h
 

@@ -21,3 +21,12 @@ pub mod Distinct
 pub mod Texts
 pub mod Equal
 pub mod Names
+pub mod Kept
+pub mod Entries
+pub mod Printed
+pub mod Documents
+pub mod ReadBack
+pub mod Printable
+pub mod Inside
+pub mod Joined
+pub mod OneFault

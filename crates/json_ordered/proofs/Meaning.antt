@@ -99,7 +99,7 @@ deep_cut (byte ∷ rest) s left e = deep_next (step s byte) s byte rest left ref
 
 -- ---- a front that is led to begins a text
 
-ascii_small : (bs : List ℕ) (i : ℕ) → list_all is_ascii bs ≡ true → get_or bs i 0 < 128
+pub ascii_small : (bs : List ℕ) (i : ℕ) → list_all is_ascii bs ≡ true → get_or bs i 0 < 128
 ascii_small [] i h = omega arith
 ascii_small (b ∷ bs) zero h = ltb-true b 128 (first (is_ascii b) (list_all is_ascii bs) h)
   where

@@ -10,3 +10,7 @@ pub mod JsonParts
 pub mod JsonNames
 pub mod JsonEquality
 pub mod JsonPlaces
+pub mod JsonTexts
+pub mod JsonDocuments
+pub mod JsonPrinting
+pub mod JsonSeeds

@@ -1,17 +1,10 @@
 //! What every part of the reader needs: blanks, single bytes and words.
 
 ghost use Rattle.std.specs.Prelude.{◌≡◌, ◌≤◌, length, IfOk};
-ghost use Rattle.path_name.specs.Bytes.{is_blank};
 ghost use Rattle.json_ordered.specs.JsonSteps.{Skips, ByteSteps, WordSteps};
 
 use crate::stop::Stop;
-
-// Whether a byte is a blank of JSON.
-fn is_blank(byte: u8) -> bool
-    ensures { result ≡ is_blank byte }
-{
-    byte == b' ' || byte == b'\t' || byte == b'\n' || byte == b'\r'
-}
+use path_name::is_blank;
 
 /// What follows the blanks.
 pub(crate) fn after_blanks(text: &[u8]) -> &[u8]

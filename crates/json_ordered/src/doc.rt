@@ -1,7 +1,10 @@
 //! JSON values.
 
-ghost use Rattle.std.specs.Prelude.{◌≡◌, map, MatchOption};
+ghost use Rattle.std.specs.Prelude.{◌≡◌, map, Some, None, MatchOption};
 ghost use Rattle.std.specs.Option.{option_copied};
+ghost use Rattle.json_ordered.specs.JsonTree.{members_of};
+ghost use Rattle.json_ordered.specs.JsonParts.{value_among};
+ghost use Rattle.json_ordered.specs.Docs.{tree_of, pair_of};
 
 use path_name::{Name, Text};
 
@@ -24,10 +27,23 @@ pub enum Doc {
     Obj(Vec<(Name, Doc)>),
 }
 
+// The value of the first member with a name.
+fn value_among<'a>(members: &'a [(Name, Doc)], name: &[u8]) -> Option<&'a Doc>
+    ensures { MatchOption result
+        (value_among (members_of (map pair_of members.now)) name.now ≡ None)
+        (λ value. value_among (members_of (map pair_of members.now)) name.now ≡ Some (tree_of value.now)) }
+{
+    for member in members {
+        if member.0.as_slice() == name {
+            return Some(&member.1);
+        }
+    }
+    None
+}
+
 impl Doc {
     ghost use Rattle.json_ordered.specs.JsonTree.{array_of, object_of};
-    ghost use Rattle.json_ordered.specs.Docs.{tree_of, pair_of};
-    ghost use Rattle.json_ordered.specs.JsonParts.{is_null, boolean_in, number_in, string_in, IsNoArray, IsNoObject};
+    ghost use Rattle.json_ordered.specs.JsonParts.{is_null, boolean_in, number_in, string_in, IsNoArray, IsNoObject, value_at};
 
     /// Whether this is `null`.
     pub fn is_null(&self) -> bool
@@ -85,6 +101,16 @@ impl Doc {
     {
         match self {
             Doc::Obj(members) => Some(members.as_slice()),
+            _ => None,
+        }
+    }
+
+    /// The value that a name has, if this is an object that has it: that of the first member with the name.
+    pub fn value(&self, name: &[u8]) -> Option<&Doc>
+        ensures { MatchOption result (value_at (tree_of self.now) name.now ≡ None) (λ value. value_at (tree_of self.now) name.now ≡ Some (tree_of value.now)) }
+    {
+        match self {
+            Doc::Obj(members) => value_among(members.as_slice(), name),
             _ => None,
         }
     }

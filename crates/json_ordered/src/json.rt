@@ -1,9 +1,10 @@
 //! The value of a JSON text.
 
-ghost use Rattle.std.specs.Prelude.{◌≡◌, ◌≢◌, ◌↔◌, ℕ, true, List, [], Option, Some, None, Ok, IfOk, IfErr};
+ghost use Rattle.std.specs.Prelude.{◌≡◌, ◌≢◌, ◌↔◌, ℕ, true, List, [], Option, Some, None, Ok, Err, IfOk, IfErr};
 ghost use Rattle.path_name.specs.Given.{Gives};
 ghost use Rattle.json_ordered.specs.JsonTree.{JsonTree, put_all, HasDistinctNames, HasUtf8Texts};
 ghost use Rattle.json_ordered.specs.Json.{IsJson, IsJsonOf};
+ghost use Rattle.json_ordered.specs.JsonDocuments.{IsDocument};
 ghost use Rattle.json_ordered.specs.Docs.{tree_of};
 ghost use Rattle.json_ordered.specs.JsonNames.{value_of, last_value, names_of, first_names};
 ghost use Rattle.json_ordered.specs.JsonEquality.{documents_are_equal};
@@ -46,6 +47,8 @@ pub fn read(alloc: Global, text: &[u8]) -> Result<Doc, JsonFault>
     ensures reads { (tree : JsonTree) → IsJson text.now tree → Gives tree_of JsonFault.OutOfMemory (Ok tree) result }
     // Else it is the text's one fault, with its place.
     ensures fault { IfErr result (λ e. e ≢ JsonFault.OutOfMemory → json_fault text.now ≡ Some e) }
+    // A text that has a fault, in the words of the grammar, is refused with it.
+    ensures refuses { (fault : JsonFault) → Means text.now fault → Gives tree_of JsonFault.OutOfMemory (Err fault) result }
     // The names of each object are distinct.
     ensures distinct { IfOk result (λ doc. HasDistinctNames (tree_of doc)) }
     // Each string and name is UTF-8.
@@ -68,8 +71,11 @@ pub fn laws()
     ensures one_value { (levels more : ℕ) (text : List ℕ) (a b : JsonTree) → IsJsonOf levels text a → IsJsonOf more text b → a ≡ b }
     // A text has a value or a fault, and the value is the grammar's.
     ensures value { (text : List ℕ) (tree : JsonTree) → json_of text ≡ Ok tree ↔ IsJson text tree }
-    // What a fault says of its text, in the words of the grammar.
+    // What a fault says of its text, in the words of the grammar, and what says so of it is its fault.
     ensures fault { (text : List ℕ) (fault : JsonFault) → json_fault text ≡ Some fault → Means text fault }
+    ensures only_fault { (text : List ℕ) (fault : JsonFault) → Means text fault → json_fault text ≡ Some fault }
+    // The values of texts are those with distinct names, UTF-8 texts, numbers spelled as such, and no more levels.
+    ensures documents { (levels : ℕ) (tree : JsonTree) → ((text : List ℕ) × IsJsonOf levels text tree) ↔ IsDocument levels tree }
     // A name of an object has the last of its values, and the names are those that come, in the order in
     // which they first come.
     ensures last_values { (ms : List (List ℕ × JsonTree)) (name : List ℕ) → value_of (put_all [] ms) name ≡ last_value ms name }

@@ -18,8 +18,8 @@ fn is_plain(byte: u8) -> bool
     byte >= 0x20 && byte != b'"' && byte != b'\\'
 }
 
-// The longest front of bytes that stand for themselves, and what follows it.
-fn plain_run(text: &[u8]) -> (&[u8], &[u8])
+/// The longest front of bytes that stand for themselves, and what follows it.
+pub(crate) fn plain_run(text: &[u8]) -> (&[u8], &[u8])
     ensures parts { text.now ≡ result.0.now ++ result.1.now }
     ensures plain { list_all is_plain result.0.now ≡ true }
     ensures stops { StopsPlain result.1.now }

@@ -39,175 +39,63 @@ fn show(out: &mut Vec<u8>, doc: &Doc) -> Result<(), Fail> {
     Ok(())
 }
 
-#[derive(Drop)]
-struct Read {
-    text: &'static [u8],
-    shown: &'static [u8],
-}
-
-// The texts that have a value, with that value.
-const READ: [Read; 40] = [
-    Read {
-        text: b"null",
-        shown: b"n",
-    },
-    Read {
-        text: b"true",
-        shown: b"t",
-    },
-    Read {
-        text: b"false",
-        shown: b"f",
-    },
-    Read {
-        text: b" \t\r\n null \n",
-        shown: b"n",
-    },
-    Read {
-        text: b"0",
-        shown: b"#0",
-    },
-    Read {
-        text: b"-0",
-        shown: b"#-0",
-    },
-    Read {
-        text: b"10",
-        shown: b"#10",
-    },
-    Read {
-        text: b"-12.50",
-        shown: b"#-12.50",
-    },
-    Read {
-        text: b"1e5",
-        shown: b"#1e5",
-    },
-    Read {
-        text: b"1E+05",
-        shown: b"#1E+05",
-    },
-    Read {
-        text: b"0.0e-00",
-        shown: b"#0.0e-00",
-    },
-    Read {
-        text: b"123456789012345678901234567890",
-        shown: b"#123456789012345678901234567890",
-    },
-    Read {
-        text: b"\"\"",
-        shown: b"''",
-    },
-    Read {
-        text: b"\"a b\"",
-        shown: b"'a b'",
-    },
-    Read {
-        text: b"\"\\\"\\\\\\/\"",
-        shown: b"'\"\\/'",
-    },
-    Read {
-        text: b"\"\\b\\f\\n\\r\\t\"",
-        shown: b"'\x08\x0c\n\r\t'",
-    },
-    Read {
-        text: b"\"\\u0041\\u00e9\\u20AC\"",
-        shown: b"'A\xc3\xa9\xe2\x82\xac'",
-    },
-    Read {
-        text: b"\"\\u0000\"",
-        shown: b"'\x00'",
-    },
-    Read {
-        text: b"\"\\ud83d\\ude00\"",
-        shown: b"'\xf0\x9f\x98\x80'",
-    },
-    Read {
-        text: b"\"\\uD800\\uDC00\"",
-        shown: b"'\xf0\x90\x80\x80'",
-    },
-    Read {
-        text: b"\"\\udbff\\udfff\"",
-        shown: b"'\xf4\x8f\xbf\xbf'",
-    },
-    Read {
-        text: b"\"\\ud7ff\\ue000\"",
-        shown: b"'\xed\x9f\xbf\xee\x80\x80'",
-    },
-    Read {
-        text: b"\"\xc3\xa9\x7f\"",
-        shown: b"'\xc3\xa9\x7f'",
-    },
-    Read {
-        text: b"[]",
-        shown: b"()",
-    },
-    Read {
-        text: b"[ ]",
-        shown: b"()",
-    },
-    Read {
-        text: b"[1]",
-        shown: b"(#1;)",
-    },
-    Read {
-        text: b"[ 1 , \"a\" , [ ] ]",
-        shown: b"(#1;'a';();)",
-    },
-    Read {
-        text: b"[[[]],{}]",
-        shown: b"(((););{};)",
-    },
-    Read {
-        text: b"[0,-1]",
-        shown: b"(#0;#-1;)",
-    },
-    Read {
-        text: b"{}",
-        shown: b"{}",
-    },
-    Read {
-        text: b"{ }",
-        shown: b"{}",
-    },
-    Read {
-        text: b"{\"a\":1}",
-        shown: b"{a=#1;}",
-    },
-    Read {
-        text: b"{ \"a\" : null , \"\" : [ ] }",
-        shown: b"{a=n;=();}",
-    },
-    // A repeated name keeps its first place and takes its last value, whatever spells it.
-    Read {
-        text: b"{\"a\":1,\"b\":2,\"a\":3}",
-        shown: b"{a=#3;b=#2;}",
-    },
-    Read {
-        text: b"{\"a\":1,\"b\":2,\"\\u0061\":[],\"b\":4,\"a\":5}",
-        shown: b"{a=#5;b=#4;}",
-    },
-    Read {
-        text: b"{\"x\":{\"a\":1,\"a\":2},\"y\":{\"a\":3}}",
-        shown: b"{x={a=#2;};y={a=#3;};}",
-    },
-    Read {
-        text: b"{\"extra\":{\"a\":{},\"b\":{\"0\":1,\"1\":2},\"a\":3}}",
-        shown: b"{extra={a=#3;b={0=#1;1=#2;};};}",
-    },
-    Read {
-        text: b"{\"require\":{\"a/b\":\"^1.0\"},\"name\":\"x/y\"}",
-        shown: b"{require={a/b='^1.0';};name='x/y';}",
-    },
-    Read {
-        text: b"{\"c\":1,\"b\":2,\"a\":3}",
-        shown: b"{c=#1;b=#2;a=#3;}",
-    },
-    Read {
-        text: b"\"\\uFFFF\"",
-        shown: b"'\xef\xbf\xbf'",
-    },
+// Texts that have a value, each with that value as `show` shows it.
+const READ: [[&[u8]; 2]; 40] = [
+    [b"null", b"n"],
+    [b"true", b"t"],
+    [b"false", b"f"],
+    [b" \t\r\n null \n", b"n"],
+    [b"0", b"#0"],
+    [b"-0", b"#-0"],
+    [b"10", b"#10"],
+    [b"-12.50", b"#-12.50"],
+    [b"1e5", b"#1e5"],
+    [b"1E+05", b"#1E+05"],
+    [b"0.0e-00", b"#0.0e-00"],
+    [
+        b"123456789012345678901234567890",
+        b"#123456789012345678901234567890",
+    ],
+    [b"\"\"", b"''"],
+    [b"\"a b\"", b"'a b'"],
+    [b"\"\\\"\\\\\\/\"", b"'\"\\/'"],
+    [b"\"\\b\\f\\n\\r\\t\"", b"'\x08\x0c\n\r\t'"],
+    [b"\"\\u0041\\u00e9\\u20AC\"", b"'A\xc3\xa9\xe2\x82\xac'"],
+    [b"\"\\u0000\"", b"'\x00'"],
+    [b"\"\\ud83d\\ude00\"", b"'\xf0\x9f\x98\x80'"],
+    [b"\"\\uD800\\uDC00\"", b"'\xf0\x90\x80\x80'"],
+    [b"\"\\udbff\\udfff\"", b"'\xf4\x8f\xbf\xbf'"],
+    [b"\"\\ud7ff\\ue000\"", b"'\xed\x9f\xbf\xee\x80\x80'"],
+    [b"\"\xc3\xa9\x7f\"", b"'\xc3\xa9\x7f'"],
+    [b"[]", b"()"],
+    [b"[ ]", b"()"],
+    [b"[1]", b"(#1;)"],
+    [b"[ 1 , \"a\" , [ ] ]", b"(#1;'a';();)"],
+    [b"[[[]],{}]", b"(((););{};)"],
+    [b"[0,-1]", b"(#0;#-1;)"],
+    [b"{}", b"{}"],
+    [b"{ }", b"{}"],
+    [b"{\"a\":1}", b"{a=#1;}"],
+    [b"{ \"a\" : null , \"\" : [ ] }", b"{a=n;=();}"],
+    [b"{\"a\":1,\"b\":2,\"a\":3}", b"{a=#3;b=#2;}"],
+    [
+        b"{\"a\":1,\"b\":2,\"\\u0061\":[],\"b\":4,\"a\":5}",
+        b"{a=#5;b=#4;}",
+    ],
+    [
+        b"{\"x\":{\"a\":1,\"a\":2},\"y\":{\"a\":3}}",
+        b"{x={a=#2;};y={a=#3;};}",
+    ],
+    [
+        b"{\"extra\":{\"a\":{},\"b\":{\"0\":1,\"1\":2},\"a\":3}}",
+        b"{extra={a=#3;b={0=#1;1=#2;};};}",
+    ],
+    [
+        b"{\"require\":{\"a/b\":\"^1.0\"},\"name\":\"x/y\"}",
+        b"{require={a/b='^1.0';};name='x/y';}",
+    ],
+    [b"{\"c\":1,\"b\":2,\"a\":3}", b"{c=#1;b=#2;a=#3;}"],
+    [b"\"\\uFFFF\"", b"'\xef\xbf\xbf'"],
 ];
 
 #[derive(Drop)]
@@ -544,10 +432,10 @@ fn look(rt: &impl Abort, doc: &Doc) -> Result<(), Fail> {
 #[test]
 fn values_and_faults(rt: HostRuntime) -> Result<(), Fail> {
     for row in &READ {
-        let doc = read(rt.alloc(), row.text).ok().ok_or("no value")?;
+        let doc = read(rt.alloc(), row[0]).ok().ok_or("no value")?;
         let mut shown = Vec::new(rt.alloc());
         show(&mut shown, &doc)?;
-        assert_eq!(rt; shown.as_slice(), row.shown);
+        assert_eq!(rt; shown.as_slice(), row[1]);
     }
     for row in &REFUSED {
         match read(rt.alloc(), row.text) {
@@ -608,5 +496,127 @@ fn levels(rt: HostRuntime) -> Result<(), Fail> {
     early.extend_from_slice(b"[,")?;
     early.extend_from_slice(&open)?;
     assert!(rt; matches!(read(rt.alloc(), &early), Err(JsonFault::Syntax(1))));
+    Ok(())
+}
+
+// A text, the compact form and the pretty form of its value. Printed by vectors/json_texts.php: PHP's own
+// json_encode made both forms.
+const PRINTED: [[&[u8]; 3]; 33] = [
+    [b"null", b"null", b"null"],
+    [b"true", b"true", b"true"],
+    [b"false", b"false", b"false"],
+    [b"0", b"0", b"0"],
+    [b"-12", b"-12", b"-12"],
+    [b"1.5", b"1.5", b"1.5"],
+    [b"\"\"", b"\"\"", b"\"\""],
+    [b"[]", b"[]", b"[]"],
+    [b"{}", b"[]", b"{}"],
+    [b"[[],{}]", b"[[],[]]", b"[\n    [],\n    {}\n]"],
+    [b"\"plain\"", b"\"plain\"", b"\"plain\""],
+    [
+        b"\"a\\\"b\\\\c\\/d/e\"",
+        b"\"a\\\"b\\\\c\\/d\\/e\"",
+        b"\"a\\\"b\\\\c/d/e\"",
+    ],
+    [
+        b"\"\\b\\f\\n\\r\\t\\u0000\\u001f\\u007f\\u0080\"",
+        b"\"\\b\\f\\n\\r\\t\\u0000\\u001f\x7f\\u0080\"",
+        b"\"\\b\\f\\n\\r\\t\\u0000\\u001f\x7f\xc2\x80\"",
+    ],
+    [
+        b"\"\xc3\xa9\xe2\x82\xac/\"",
+        b"\"\\u00e9\\u20ac\\/\"",
+        b"\"\xc3\xa9\xe2\x82\xac/\"",
+    ],
+    [
+        b"\"\\u00e9\\u20ac\\ud83d\\ude00\"",
+        b"\"\\u00e9\\u20ac\\ud83d\\ude00\"",
+        b"\"\xc3\xa9\xe2\x82\xac\xf0\x9f\x98\x80\"",
+    ],
+    [
+        b"\"\xf0\x90\x80\x80\"",
+        b"\"\\ud800\\udc00\"",
+        b"\"\xf0\x90\x80\x80\"",
+    ],
+    [
+        b"\"\\uffff\\u2028\\u2029\"",
+        b"\"\\uffff\\u2028\\u2029\"",
+        b"\"\xef\xbf\xbf\xe2\x80\xa8\xe2\x80\xa9\"",
+    ],
+    [b"[1,2,3]", b"[1,2,3]", b"[\n    1,\n    2,\n    3\n]"],
+    [
+        b"[null,true,false]",
+        b"[null,true,false]",
+        b"[\n    null,\n    true,\n    false\n]",
+    ],
+    [
+        b"[{\"a\":1},{\"b\":[2]}]",
+        b"[{\"a\":1},{\"b\":[2]}]",
+        b"[\n    {\n        \"a\": 1\n    },\n    {\n        \"b\": [\n            2\n        ]\n    }\n]",
+    ],
+    [b"{\"a\":1}", b"{\"a\":1}", b"{\n    \"a\": 1\n}"],
+    [
+        b"{\"a\":{},\"b\":[]}",
+        b"{\"a\":[],\"b\":[]}",
+        b"{\n    \"a\": {},\n    \"b\": []\n}",
+    ],
+    [b"{\"0\":1}", b"[1]", b"{\n    \"0\": 1\n}"],
+    [
+        b"{\"0\":1,\"1\":2}",
+        b"[1,2]",
+        b"{\n    \"0\": 1,\n    \"1\": 2\n}",
+    ],
+    [
+        b"{\"1\":1,\"0\":2}",
+        b"{\"1\":1,\"0\":2}",
+        b"{\n    \"1\": 1,\n    \"0\": 2\n}",
+    ],
+    [
+        b"{\"0\":1,\"2\":2}",
+        b"{\"0\":1,\"2\":2}",
+        b"{\n    \"0\": 1,\n    \"2\": 2\n}",
+    ],
+    [b"{\"00\":1}", b"{\"00\":1}", b"{\n    \"00\": 1\n}"],
+    [
+        b"{\"0\":{\"0\":[]},\"1\":{\"1\":0}}",
+        b"[[[]],{\"1\":0}]",
+        b"{\n    \"0\": {\n        \"0\": []\n    },\n    \"1\": {\n        \"1\": 0\n    }\n}",
+    ],
+    [
+        b"{\"a\":{},\"b\":{\"0\":1,\"1\":2},\"a\":3}",
+        b"{\"a\":3,\"b\":[1,2]}",
+        b"{\n    \"a\": 3,\n    \"b\": {\n        \"0\": 1,\n        \"1\": 2\n    }\n}",
+    ],
+    [
+        b"{\"e\":{},\"u\":\"\xc3\xa9/\"}",
+        b"{\"e\":[],\"u\":\"\\u00e9\\/\"}",
+        b"{\n    \"e\": {},\n    \"u\": \"\xc3\xa9/\"\n}",
+    ],
+    [
+        b"{\"0\":0,\"1\":1,\"2\":2,\"3\":3,\"4\":4,\"5\":5,\"6\":6,\"7\":7,\"8\":8,\"9\":9,\"10\":10}",
+        b"[0,1,2,3,4,5,6,7,8,9,10]",
+        b"{\n    \"0\": 0,\n    \"1\": 1,\n    \"2\": 2,\n    \"3\": 3,\n    \"4\": 4,\n    \"5\": 5,\n    \"6\": 6,\n    \"7\": 7,\n    \"8\": 8,\n    \"9\": 9,\n    \"10\": 10\n}",
+    ],
+    [
+        b"{\"\xc3\xa9\\\"\":\"x\",\"\":[\" \"]}",
+        b"{\"\\u00e9\\\"\":\"x\",\"\":[\" \"]}",
+        b"{\n    \"\xc3\xa9\\\"\": \"x\",\n    \"\": [\n        \" \"\n    ]\n}",
+    ],
+    [
+        b"{\"name\":\"x/y\",\"require\":{\"php\":\">=8.1\",\"a/b\":\"^1.0\"},\"autoload\":{\"psr-4\":{\"A\\\\\":[\"src/\",\"lib\"]}}}",
+        b"{\"name\":\"x\\/y\",\"require\":{\"php\":\">=8.1\",\"a\\/b\":\"^1.0\"},\"autoload\":{\"psr-4\":{\"A\\\\\":[\"src\\/\",\"lib\"]}}}",
+        b"{\n    \"name\": \"x/y\",\n    \"require\": {\n        \"php\": \">=8.1\",\n        \"a/b\": \"^1.0\"\n    },\n    \"autoload\": {\n        \"psr-4\": {\n            \"A\\\\\": [\n                \"src/\",\n                \"lib\"\n            ]\n        }\n    }\n}",
+    ],
+];
+
+#[test]
+fn printed_forms(rt: HostRuntime) -> Result<(), Fail> {
+    for row in &PRINTED {
+        let doc = read(rt.alloc(), row[0]).ok().ok_or("no value")?;
+        let compact = print_hash_form(rt.alloc(), &doc)?;
+        assert_eq!(rt; compact.as_slice(), row[1]);
+        let pretty = print_pretty(rt.alloc(), &doc)?;
+        assert_eq!(rt; pretty.as_slice(), row[2]);
+    }
     Ok(())
 }

@@ -1,39 +1,28 @@
 //! Reading a text.
 
 ghost use Rattle.std.specs.Prelude.{◌≡◌, ◌<◌, ◌≤◌, ◌+◌, [], ◌∷◌, length, take, drop, map, IfOk, IfErr};
-ghost use Rattle.json_ordered.specs.JsonTree.{put};
-ghost use Rattle.json_ordered.specs.Docs.{tree_of, pair_of};
+ghost use Rattle.json_ordered.specs.Json.{most_levels};
+ghost use Rattle.json_ordered.specs.Docs.{tree_of};
 ghost use Rattle.json_ordered.specs.JsonReading.{Plain, As_value, Before_value, In_word, In_number, In_string};
-ghost use Rattle.json_ordered.specs.JsonFrames.{entry_of, in_frames, NameSteps, Turn, ValueSteps, ArrayLeft, ObjectLeft, FrameLeft, Ends, WholeSteps};
+ghost use Rattle.json_ordered.specs.JsonFrames.{in_frames, NameSteps, Turn, ValueSteps, ArrayLeft, ObjectLeft, FrameLeft, Ends, WholeSteps};
 
 use crate::blanks::{after_blanks, after_byte, after_word};
 use crate::doc::Doc;
 use crate::frame::Frame;
+use crate::members::joined;
 use crate::number::{Part, number};
 use crate::start::{Start, start_of};
+use crate::step::Step;
 use crate::stop::Stop;
 use crate::string::string;
-use indexmap::IndexMap;
 use path_name::{Name, Text};
 use std::alloc::Global;
 
 /// How many levels of arrays and objects may be open at any place.
 pub const LEVELS: usize = 128;
 
-// The members of an object, in order.
-fn pairs(alloc: Global, members: IndexMap<Vec<u8>, Doc>) -> Result<Vec<(Name, Doc)>, Stop>
-    ensures ok { IfOk result (λ pairs. map pair_of pairs.items ≡ map entry_of members.entries) }
-    ensures err { IfErr result (λ e. e ≡ Stop.OutOfMemory) }
-{
-    let mut pairs = Vec::new(alloc);
-    for (name, doc) in members {
-        pairs.push((Name::of(name), doc))?;
-    }
-    Ok(pairs)
-}
-
 // A name up to its `:`, and what follows.
-fn name(alloc: Global, text: &[u8]) -> Result<(Vec<u8>, &[u8]), Stop>
+fn member_name(alloc: Global, text: &[u8]) -> Result<(Vec<u8>, &[u8]), Stop>
     ensures steps { NameSteps text.now result }
     ensures shorter { IfOk result (λ x. length x.1.now < length text.now) }
 {
@@ -46,32 +35,32 @@ fn name(alloc: Global, text: &[u8]) -> Result<(Vec<u8>, &[u8]), Stop>
 }
 
 // A string that has begun, and what follows.
-fn string_value(alloc: Global, text: &[u8]) -> Result<(Option<Doc>, &[u8]), Stop>
+fn string_value(alloc: Global, text: &[u8]) -> Result<(Step, &[u8]), Stop>
     ensures steps { ValueSteps (In_string As_value [] Plain) text.now result }
     ensures shorter { IfOk result (λ x. length x.1.now ≤ length text.now) }
 {
     let (bytes, rest) = string(alloc, text)?;
-    Ok((Some(Doc::Str(Text::of(bytes))), rest))
+    Ok((Step::Ended(Doc::Str(Text::of(bytes))), rest))
 }
 
 // A number, and what follows.
-fn number_value(alloc: Global, text: &[u8], first: Part) -> Result<(Option<Doc>, &[u8]), Stop>
+fn number_value(alloc: Global, text: &[u8], first: Part) -> Result<(Step, &[u8]), Stop>
     requires { 0 < length text.now }
     ensures steps { ValueSteps (In_number first (take 1 text.now)) (drop 1 text.now) result }
     ensures shorter { IfOk result (λ x. length x.1.now < length text.now) }
 {
     let (digits, rest) = number(text, first)?;
     let bytes = Vec::from_slice(alloc, digits)?;
-    Ok((Some(Doc::Num(Text::of(bytes))), rest))
+    Ok((Step::Ended(Doc::Num(Text::of(bytes))), rest))
 }
 
 // The document that a word stands for, and what follows the rest of the word.
-fn word_value<'a>(text: &'a [u8], word: &[u8], doc: Doc) -> Result<(Option<Doc>, &'a [u8]), Stop>
+fn word_value<'a>(text: &'a [u8], word: &[u8], doc: Doc) -> Result<(Step, &'a [u8]), Stop>
     ensures steps { ValueSteps (In_word word.now (tree_of doc)) text.now result }
     ensures shorter { IfOk result (λ x. length x.1.now ≤ length text.now) }
 {
     let rest = after_word(text, word)?;
-    Ok((Some(doc), rest))
+    Ok((Step::Ended(doc), rest))
 }
 
 // Opens an array behind its `[`, with `left` bytes from the `[` on; an empty one ends at once.
@@ -80,11 +69,11 @@ fn open_array<'a>(
     stack: &mut Vec<Frame>,
     left: usize,
     text: &'a [u8],
-) -> Result<(Option<Doc>, &'a [u8]), Stop>
+) -> Result<(Step, &'a [u8]), Stop>
     requires { left ≡ length text.now + 1 }
     ensures steps { Turn (in_frames stack.old.items Before_value) (91 ∷ text.now) stack.new.items result }
     ensures shorter { IfOk result (λ x. length x.1.now ≤ length text.now) }
-    ensures bound { length stack.old.items ≤ 128 → length stack.new.items ≤ 128 }
+    ensures bound { length stack.old.items ≤ most_levels → length stack.new.items ≤ most_levels }
 {
     if stack.len() >= LEVELS {
         return Err(Stop::TooDeep(left));
@@ -94,10 +83,12 @@ fn open_array<'a>(
         return Err(Stop::Syntax(0));
     };
     if *byte == b']' {
-        return Ok((Some(Doc::List(Vec::new(alloc))), rest));
+        return Ok((Step::Ended(Doc::List(Vec::new(alloc))), rest));
     }
-    stack.push(Frame::Array(Vec::new(alloc)))?;
-    Ok((None, text))
+    stack.push(Frame::Array {
+        items: Vec::new(alloc),
+    })?;
+    Ok((Step::Coming, text))
 }
 
 // Opens an object behind its `{`, with `left` bytes from the `{` on; an empty one ends at once.
@@ -106,11 +97,11 @@ fn open_object<'a>(
     stack: &mut Vec<Frame>,
     left: usize,
     text: &'a [u8],
-) -> Result<(Option<Doc>, &'a [u8]), Stop>
+) -> Result<(Step, &'a [u8]), Stop>
     requires { left ≡ length text.now + 1 }
     ensures steps { Turn (in_frames stack.old.items Before_value) (123 ∷ text.now) stack.new.items result }
     ensures shorter { IfOk result (λ x. length x.1.now ≤ length text.now) }
-    ensures bound { length stack.old.items ≤ 128 → length stack.new.items ≤ 128 }
+    ensures bound { length stack.old.items ≤ most_levels → length stack.new.items ≤ most_levels }
 {
     if stack.len() >= LEVELS {
         return Err(Stop::TooDeep(left));
@@ -120,11 +111,14 @@ fn open_object<'a>(
         return Err(Stop::Syntax(0));
     };
     if *byte == b'}' {
-        return Ok((Some(Doc::Obj(Vec::new(alloc))), rest));
+        return Ok((Step::Ended(Doc::Obj(Vec::new(alloc))), rest));
     }
-    let (name, rest) = name(alloc, text)?;
-    stack.push(Frame::Object(IndexMap::new(alloc), name))?;
-    Ok((None, rest))
+    let (name, rest) = member_name(alloc, text)?;
+    stack.push(Frame::Object {
+        members: Vec::new(alloc),
+        name,
+    })?;
+    Ok((Step::Coming, rest))
 }
 
 // Goes on behind the last item so far of an array.
@@ -132,65 +126,51 @@ fn leave_array<'a>(
     stack: &mut Vec<Frame>,
     items: Vec<Doc>,
     text: &'a [u8],
-) -> Result<(Option<Doc>, &'a [u8]), Stop>
-    requires { length stack.old.items < 128 }
+) -> Result<(Step, &'a [u8]), Stop>
+    requires { length stack.old.items < most_levels }
     ensures steps { ArrayLeft items.items text.now stack.old.items stack.new.items result }
     ensures shorter { IfOk result (λ x. length x.1.now < length text.now) }
-    ensures bound { length stack.new.items ≤ 128 }
+    ensures bound { length stack.new.items ≤ most_levels }
 {
     let text = after_blanks(text);
     let Some((byte, rest)) = text.split_first() else {
         return Err(Stop::Syntax(0));
     };
     if *byte == b',' {
-        stack.push(Frame::Array(items))?;
-        return Ok((None, rest));
+        stack.push(Frame::Array { items })?;
+        return Ok((Step::Coming, rest));
     }
     if *byte != b']' {
         return Err(Stop::Syntax(text.len()));
     }
-    Ok((Some(Doc::List(items)), rest))
+    Ok((Step::Ended(Doc::List(items)), rest))
 }
 
 // Goes on behind the last member so far of an object.
 fn leave_object<'a>(
     alloc: Global,
     stack: &mut Vec<Frame>,
-    members: IndexMap<Vec<u8>, Doc>,
+    members: Vec<(Name, Doc)>,
     text: &'a [u8],
-) -> Result<(Option<Doc>, &'a [u8]), Stop>
-    requires { length stack.old.items < 128 }
-    ensures steps { ObjectLeft members.entries text.now stack.old.items stack.new.items result }
+) -> Result<(Step, &'a [u8]), Stop>
+    requires { length stack.old.items < most_levels }
+    ensures steps { ObjectLeft members.items text.now stack.old.items stack.new.items result }
     ensures shorter { IfOk result (λ x. length x.1.now < length text.now) }
-    ensures bound { length stack.new.items ≤ 128 }
+    ensures bound { length stack.new.items ≤ most_levels }
 {
     let text = after_blanks(text);
     let Some((byte, rest)) = text.split_first() else {
         return Err(Stop::Syntax(0));
     };
     if *byte == b',' {
-        let (name, rest) = name(alloc, rest)?;
-        stack.push(Frame::Object(members, name))?;
-        return Ok((None, rest));
+        let (name, rest) = member_name(alloc, rest)?;
+        stack.push(Frame::Object { members, name })?;
+        return Ok((Step::Coming, rest));
     }
     if *byte != b'}' {
         return Err(Stop::Syntax(text.len()));
     }
-    Ok((Some(Doc::Obj(pairs(alloc, members)?)), rest))
-}
-
-// The members with one more: a name that is there keeps its place and takes the value.
-fn put(
-    members: IndexMap<Vec<u8>, Doc>,
-    name: Vec<u8>,
-    doc: Doc,
-) -> Result<IndexMap<Vec<u8>, Doc>, Stop>
-    ensures ok { IfOk result (λ all. map entry_of all.entries ≡ put (map entry_of members.entries) name.items (tree_of doc)) }
-    ensures err { IfErr result (λ e. e ≡ Stop.OutOfMemory) }
-{
-    let mut members = members;
-    let _old = members.insert(name, doc)?;
-    Ok(members)
+    Ok((Step::Ended(Doc::Obj(joined(alloc, members)?)), rest))
 }
 
 // Goes on behind a value inside this frame.
@@ -200,19 +180,19 @@ fn leave<'a>(
     frame: Frame,
     doc: Doc,
     text: &'a [u8],
-) -> Result<(Option<Doc>, &'a [u8]), Stop>
-    requires { length stack.old.items < 128 }
+) -> Result<(Step, &'a [u8]), Stop>
+    requires { length stack.old.items < most_levels }
     ensures steps { FrameLeft frame doc text.now stack.old.items stack.new.items result }
     ensures shorter { IfOk result (λ x. length x.1.now < length text.now) }
-    ensures bound { length stack.new.items ≤ 128 }
+    ensures bound { length stack.new.items ≤ most_levels }
 {
     match frame {
-        Frame::Array(mut items) => {
+        Frame::Array { mut items } => {
             items.push(doc)?;
             leave_array(stack, items, text)
         }
-        Frame::Object(members, name) => {
-            let members = put(members, name, doc)?;
+        Frame::Object { mut members, name } => {
+            members.push((Name::of(name), doc))?;
             leave_object(alloc, stack, members, text)
         }
     }
@@ -223,10 +203,10 @@ fn enter<'a>(
     alloc: Global,
     stack: &mut Vec<Frame>,
     text: &'a [u8],
-) -> Result<(Option<Doc>, &'a [u8]), Stop>
+) -> Result<(Step, &'a [u8]), Stop>
     ensures steps { Turn (in_frames stack.old.items Before_value) text.now stack.new.items result }
     ensures shorter { IfOk result (λ x. length x.1.now < length text.now) }
-    ensures bound { length stack.old.items ≤ 128 → length stack.new.items ≤ 128 }
+    ensures bound { length stack.old.items ≤ most_levels → length stack.new.items ≤ most_levels }
 {
     let text = after_blanks(text);
     let Some((byte, rest)) = text.split_first() else {
@@ -261,12 +241,12 @@ pub(crate) fn document(alloc: Global, text: &[u8]) -> Result<Doc, Stop>
     ensures { WholeSteps text.now result }
 {
     let mut stack = Vec::new(alloc);
-    let mut value = None;
+    let mut step = Step::Coming;
     let mut rest = text;
     loop {
-        (value, rest) = match value {
-            None => enter(alloc, &mut stack, rest)?,
-            Some(doc) => match stack.pop() {
+        (step, rest) = match step {
+            Step::Coming => enter(alloc, &mut stack, rest)?,
+            Step::Ended(doc) => match stack.pop() {
                 None => return whole(doc, rest),
                 Some(frame) => leave(alloc, &mut stack, frame, doc, rest)?,
             },

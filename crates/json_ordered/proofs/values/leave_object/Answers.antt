@@ -28,4 +28,4 @@ returns-then-byte-ne125-clause-steps c = λ done name v is. object_bad c.args.st
 
 pub returns-clause-steps : goal.returns-clause-steps
 returns-clause-steps c = λ done name v is. object_end c.args.stack.now.items c.args.text.now c.after_blanks-text.result.now c.after_blanks-text.ensures done name v c.in-Some.byte.now c.in-Some.rest.now c.in-Some.ensures.cases.0 c.if-byte-ne125.false
-    ∙ closed_to c.args.stack.now.items (object_of (put done name v)) _ c.in-Some.rest.now c.requires (sym (tree_obj c.in_ok-pairs.field-0 ∙ ap object_of (c.in_ok-pairs.ensures.ok ∙ is)))
+    ∙ closed_to c.args.stack.now.items (object_of (put done name v)) _ c.in-Some.rest.now c.requires (sym (tree_obj c.in_ok-joined.field-0 ∙ ap object_of (c.in_ok-joined.ensures.ok ∙ is)))

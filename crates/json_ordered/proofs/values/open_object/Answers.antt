@@ -2,9 +2,9 @@ use Rattle.std.proofs.Common.{sym, ap, ◌∙◌, [], arith, map}
 use Rattle.std.proofs.lemmas.Result.{err_from_is_err_and}
 use Rattle.std.proofs.lemmas.List.{nil_from_length}
 use Rattle.json_ordered.specs.declared.frame.Frame.TheVariants as frame
-use Rattle.json_ordered.specs.JsonTree.{object_of}
+use Rattle.json_ordered.specs.JsonTree.{object_of, put_all}
 use Rattle.json_ordered.specs.JsonReading.{In_object, Before_value, read_from}
-use Rattle.json_ordered.specs.JsonFrames.{stack_of, entry_of}
+use Rattle.json_ordered.specs.JsonFrames.{stack_of}
 use Rattle.json_ordered.specs.Docs.{pair_of}
 use Rattle.json_ordered.proofs.Docs.{tree_obj}
 use Rattle.json_ordered.proofs.Escapes.{fails_along}
@@ -33,4 +33,4 @@ pub returns-clause-steps : goal.returns-clause-steps
 returns-clause-steps c = object_open c.args.stack.now.items c.args.text.now c.after_blanks-text.result.now (omega (arith, c.args.stack.now.ok.0)) c.after_blanks-text.ensures
     ∙ object_first (inner c.args.stack.now.items) (stack_of c.args.stack.now.items) c.after_blanks-text.result.now c.in-Some.rest.now c.in-Some.byte.now c.in-Some.ensures.cases.0 c.after_blanks-text.ensures.stops c.if-byte-eq125.false
     ∙ c.in_ok-name.ensures.steps (inner c.args.stack.now.items) (stack_of c.args.stack.now.items) []
-    ∙ ap (λ s. read_from s c.in_ok-name.rest.now) (sym (in_push c.args.stack.now.items c.push.new.self.items (frame.Object c.new-2.result c.in_ok-name.name) (In_object [] c.in_ok-name.name.items) Before_value c.in_ok-push.ensures.items (ap (λ ms. In_object (map entry_of ms) c.in_ok-name.name.items) c.new-2.ensures.empty)))
+    ∙ ap (λ s. read_from s c.in_ok-name.rest.now) (sym (in_push c.args.stack.now.items c.push.new.self.items (frame.Object c.new-2.result c.in_ok-name.name) (In_object [] c.in_ok-name.name.items) Before_value c.in_ok-push.ensures.items (ap (λ ms. In_object (put_all [] (map pair_of ms)) c.in_ok-name.name.items) c.new-2.ensures.items)))

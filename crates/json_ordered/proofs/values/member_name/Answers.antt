@@ -3,7 +3,7 @@ use Rattle.std.proofs.lemmas.Result.{err_from_is_err_and}
 use Rattle.json_ordered.specs.JsonReading.{As_name}
 use Rattle.json_ordered.proofs.Escapes.{fails_along}
 use Rattle.json_ordered.proofs.Frames.{name_halts, name_begins, colon_halts, colon_more}
-use Rattle.json_ordered.proofs.values.name.Goals as goal
+use Rattle.json_ordered.proofs.values.member_name.Goals as goal
 
 pub returns-in_err-quoted-clause-steps : goal.returns-in_err-quoted-clause-steps
 returns-in_err-quoted-clause-steps c =

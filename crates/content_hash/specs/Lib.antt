@@ -1,0 +1,3 @@
+pub mod HashedText
+pub mod Ids
+pub mod HashedParts
