@@ -12,3 +12,4 @@ pub mod ReadBack
 pub mod Ranges
 pub mod Ordered
 pub mod Blanks
+pub mod SmallNumbers

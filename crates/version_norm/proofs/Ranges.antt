@@ -55,7 +55,7 @@ numbered_normal : (numbers : Numbers) (suffix : Option Suffix) (dev : Bool) → 
 numbered_normal numbers None dev small first all = record { numbers = small; following = tt; first = inl first }
 numbered_normal numbers (Some suffix) dev small first all = staged_normal numbers (stage_of suffix.0) suffix.1 dev small first all
 
-classical_normal : (text : List ℕ) (v : Numbered) → IsClassical text v → IsNormal v
+pub classical_normal : (text : List ℕ) (v : Numbered) → IsClassical text v → IsNormal v
 classical_normal text v is =
     let first = number_below 5 is.number is.first is.number_is in
     let small = four_small 0 is.first is.others (omega arith) (omega arith) (row_small IsPart part_small is.parts is.others is.parts_are) in

@@ -39,7 +39,7 @@ read x = Ok x
 same_reading : {X : Type 0} (x y : X) → read x ≡ read y → x ≡ y
 same_reading x y e = cc
 
-number_is : (most : ℕ) (text : List ℕ) (n : ℕ) (rest : List ℕ) (took : TakesNumber most text n rest) → IsNumber most took.digits n
+pub number_is : (most : ℕ) (text : List ℕ) (n : ℕ) (rest : List ℕ) (took : TakesNumber most text n rest) → IsNumber most took.digits n
 number_is most text n rest took = record { digits = by took.digits took.all took.some; short = took.short; value = took.value }
   where
     by : (digits : List ℕ) → list_all is_digit digits ≡ true → 0 < length digits → is_number digits ≡ true
@@ -49,7 +49,7 @@ number_is most text n rest took = record { digits = by took.digits took.all took
 -- ---- parts
 
 -- what a reading of a part took
-abbrev Took : (List ℕ → ℕ → Type 0) → List ℕ → Option ℕ × List ℕ → Type 0
+abbrev pub Took : (List ℕ → ℕ → Type 0) → List ℕ → Option ℕ × List ℕ → Type 0
 Took IsPiece text (None, rest) = rest ≡ text
 Took IsPiece text (Some n, rest) = (piece : List ℕ) × (text ≡ piece ++ rest) × IsPiece piece n
 
@@ -73,7 +73,7 @@ wider : (text : List ℕ) (x : Option ℕ × List ℕ) → Took IsPart text x �
 wider text (None, rest) took = took
 wider text (Some n, rest) took = (took.0, took.1, inl took.2)
 
-part_takes : (text : List ℕ) (x : Option ℕ × List ℕ) → part_at text ≡ Ok x → Took IsPart text x
+pub part_takes : (text : List ℕ) (x : Option ℕ × List ℕ) → part_at text ≡ Ok x → Took IsPart text x
 unfolding part_at
 part_takes [] x e = let none : Option ℕ × List ℕ = (None, []) in subst (λ (y : Option ℕ × List ℕ). Took IsPart [] y) (same_reading none x e) refl
 part_takes (b ∷ bs) x e =

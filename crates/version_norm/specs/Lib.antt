@@ -5,3 +5,4 @@ pub mod Stability
 pub mod VersionOrder
 pub mod Normal
 pub mod Rules
+pub mod Written

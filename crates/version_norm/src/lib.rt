@@ -10,13 +10,19 @@ mod numbered;
 mod order;
 mod pieces;
 mod version;
+mod written;
 
 pub use fault::VersionFault;
 pub use laws::{classical_versions, cuts, normal_texts, numbered_branches, rules, version_order};
-pub use normal_form::normalise;
+pub use normal_form::{before_flag, normalise};
 pub use normal_text::print;
-pub use order::compare;
-pub use version::{Grade, Modifier, Numbered, Numbers, Stage, Version, stability};
+pub use order::{compare, compare_numbered};
+pub use version::{
+    Grade, Modifier, Numbered, Numbers, Stage, Version, numbered_stability, stability,
+};
+pub use written::{
+    Classical, Position, WrittenNumbers, classical_version, read_written_numbers, trim,
+};
 
 #[cfg(test)]
 mod tests;

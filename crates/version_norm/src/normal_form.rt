@@ -22,7 +22,7 @@ fn is_blank_byte(byte: u8) -> bool
     matches!(byte, b' ' | b'\t' | b'\n' | b'\r')
 }
 
-fn after_blanks(text: &[u8]) -> &[u8]
+pub fn after_blanks(text: &[u8]) -> &[u8]
     ensures { result.now ≡ without_blanks_before text.now }
 {
     let mut start = 0;
@@ -32,7 +32,7 @@ fn after_blanks(text: &[u8]) -> &[u8]
     &text[start..]
 }
 
-fn before_blanks(text: &[u8]) -> &[u8]
+pub fn before_blanks(text: &[u8]) -> &[u8]
     ensures { result.now ≡ without_blanks_after text.now }
 {
     let mut end = text.len();
@@ -53,8 +53,9 @@ fn is_flag_word(word: &[u8]) -> bool
         || word.eq_ignore_ascii_case(b"dev")
 }
 
-/// The text without a final `@` and the name of a stability.
-fn before_flag(text: &[u8]) -> &[u8]
+/// The text without a final `@` and the name of a stability, in any case; all of it where it has none. Takes no
+/// memory.
+pub fn before_flag(text: &[u8]) -> &[u8]
     ensures { result.now ≡ without_flag text.now }
 {
     for (i, byte) in text.iter().enumerate() {
@@ -123,7 +124,7 @@ fn place_of_plus(text: &[u8]) -> usize
 }
 
 /// The text up to a first `+` with something on both sides; all of it where it has a blank or a comma.
-fn before_build(text: &[u8]) -> &[u8]
+pub fn before_build(text: &[u8]) -> &[u8]
     ensures { result.now ≡ without_build text.now }
 {
     let at = place_of_plus(text);
@@ -217,7 +218,7 @@ fn unflagged(alloc: Global, text: &[u8]) -> Result<Version, VersionFault>
 pub fn normalise(alloc: Global, text: &[u8]) -> Result<Version, VersionFault>
     // The version that the rules give, or their fault.
     ensures exact { GivesValue OutOfMemory (normal_form text.now) result }
-    // It is one whose normal text is read back.
+    // A numbered one is one whose normal text is read back.
     ensures normal { IfOk result IsNormalVersion }
 {
     unflagged(alloc, before_flag(before_blanks(after_blanks(text))))

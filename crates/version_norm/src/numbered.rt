@@ -15,7 +15,7 @@ use path_name::Items;
 use std::alloc::Global;
 
 /// The most digits of a classical version's first number.
-const MOST_CLASSICAL_DIGITS: usize = 5;
+pub const MOST_CLASSICAL_DIGITS: usize = 5;
 
 /// The numbers of a classical version; a missing one is 0.
 #[tactic(auto, unfolding(crate::specs::Versions::version_numbers_at))]

@@ -26,7 +26,8 @@ pub fn compare(a: &Version, b: &Version) -> Ordering
     }
 }
 
-fn compare_numbered(a: &Numbered, b: &Numbered) -> Ordering
+/// The order of two versions of four numbers, as `compare` has it. Takes no memory.
+pub fn compare_numbered(a: &Numbered, b: &Numbered) -> Ordering
     ensures { result ≡ numbered_cmp a.now b.now }
 {
     compare_numbers(a.numbers, b.numbers).then(compare_ranks(a, b).then(compare_following(a, b)))

@@ -144,7 +144,8 @@ pub fn stability(version: &Version) -> Grade
     }
 }
 
-fn numbered_stability(numbered: &Numbered) -> Grade
+/// How stable a version of four numbers is, as `stability` says it. Takes no memory.
+pub fn numbered_stability(numbered: &Numbered) -> Grade
     ensures { result ≡ marked_stability numbered.now.dev numbered.now.modifier }
 {
     if numbered.dev {

@@ -1,0 +1,9 @@
+pub mod PartsLeft
+pub mod Ends
+pub mod Members
+pub mod Limits
+pub mod Openness
+pub mod CommonVersions
+pub mod Fronts
+pub mod ReadTexts
+pub mod SpelledTexts

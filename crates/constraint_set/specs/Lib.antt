@@ -1,0 +1,9 @@
+pub mod Words
+pub mod Forms
+pub mod Parts
+pub mod Constraints
+pub mod Gathering
+pub mod Satisfaction
+pub mod Overlap
+pub mod Ends
+pub mod Grammar
