@@ -1,0 +1,10 @@
+pub mod Tables
+pub mod Runs
+pub mod Firsts
+pub mod TagBytes
+pub mod Openings
+pub mod Ends
+pub mod Plains
+pub mod OpenElements
+pub mod Wholes
+pub mod OneCut

@@ -1,0 +1,9 @@
+use Rattle.memchr.specs.Find.{is_byte2}
+use Rattle.php_lex.proofs.Firsts.{found, none_found}
+use Rattle.php_lex.proofs.bytes.find2.Goals as goal
+
+pub returns-in-Some : goal.returns-in-Some
+returns-in-Some c = found (is_byte2 c.args.a c.args.b) c.args.text.now c.args.at c.in-Some.ahead c.split_at.result.1.now c.split_at.ensures.back c.requires c.in-Some.ensures.0 c.in-Some.ensures.1
+
+pub returns-in-None : goal.returns-in-None
+returns-in-None c = none_found (is_byte2 c.args.a c.args.b) c.args.text.now c.args.at c.split_at.result.1.now c.split_at.ensures.back c.requires c.in-None.ensures

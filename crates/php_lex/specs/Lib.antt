@@ -1,0 +1,12 @@
+pub mod Places
+pub mod Tags
+pub mod Comments
+pub mod Quotes
+pub mod Elements
+pub mod Lexemes
+pub mod Cut
+pub mod Openings
+pub mod Pieces
+pub mod Stacks
+pub mod Lengths
+pub mod Marks
