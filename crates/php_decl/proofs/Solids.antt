@@ -1,0 +1,30 @@
+-- Lexemes without blanks and comments.
+use Rattle.std.proofs.Common.{◌≡◌, ℕ, Bool, true, false, ◌&&◌, List, [], ◌∷◌, Option, Some, None, ◌∙◌, ap, refl}
+use Rattle.php_lex.specs.declared.lexeme.LexKind.{LexKind}
+use Rattle.php_lex.specs.Cut.{Lex, Standing, Takes, IsCutFrom, IsCutOf}
+use Rattle.php_lex.proofs.OneCut.{cut_off, one_cut, cut_end}
+use Rattle.php_decl.specs.Declarations.{is_skipped, solid, is_identifier, identifier_of, is_sign, is_relative_name, ends_name, namespace_of}
+
+pub solid_skips : (x : Lex) (xs : List Lex) → is_skipped x.kind ≡ true → solid (x ∷ xs) ≡ solid xs
+solid_skips x xs h = rw h refl
+
+pub solid_keeps : (x : Lex) (xs : List Lex) → is_skipped x.kind ≡ false → solid (x ∷ xs) ≡ x ∷ solid xs
+solid_keeps x xs h = rw h refl
+
+pub no_lexemes : (s : Standing) → s.rest ≡ [] → (lexemes : List Lex) → IsCutOf s lexemes → solid lexemes ≡ []
+no_lexemes s e lexemes x = ap solid (one_cut x (cut_end s e))
+
+pub identifier_yes : (x : Lex) (xs : List Lex) → is_identifier x ≡ true → identifier_of (x ∷ xs) ≡ Some x.bytes
+identifier_yes x xs h = rw h refl
+
+pub identifier_no : (x : Lex) (xs : List Lex) → is_identifier x ≡ false → identifier_of (x ∷ xs) ≡ None
+identifier_no x xs h = rw h refl
+
+pub namespace_global : (x : Lex) (xs : List Lex) → is_sign 123 x ≡ true → namespace_of (x ∷ xs) ≡ Some []
+namespace_global x xs h = rw h refl
+
+pub namespace_named : (x : Lex) (xs : List Lex) → is_sign 123 x ≡ false → is_relative_name x && ends_name xs ≡ true → namespace_of (x ∷ xs) ≡ Some x.bytes
+namespace_named x xs g h = rw (g, h) refl
+
+pub namespace_none : (x : Lex) (xs : List Lex) → is_sign 123 x ≡ false → is_relative_name x && ends_name xs ≡ false → namespace_of (x ∷ xs) ≡ None
+namespace_none x xs g h = rw (g, h) refl
