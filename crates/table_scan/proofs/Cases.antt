@@ -1,0 +1,6 @@
+-- Cases on a test.
+use Rattle.std.proofs.Common.{◌≡◌, Bool, true, false, refl}
+
+pub by_test : {P : Type 0} (b : Bool) → (b ≡ true → P) → (b ≡ false → P) → P
+by_test true f g = f refl
+by_test false f g = g refl

@@ -1,0 +1,9 @@
+pub mod TableTokens
+pub mod TableGrammar
+pub mod TableReading
+pub mod TableFaults
+pub mod TableSteps
+pub mod Stops
+pub mod Separators
+pub mod Keys
+pub mod Repeats

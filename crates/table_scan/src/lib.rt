@@ -1,0 +1,26 @@
+//! The tables that an autoloader reads, from their texts.
+#![tactic(auto)]
+
+mod gap;
+mod head;
+mod laws;
+mod list;
+mod mark;
+mod number;
+mod quoted;
+mod repeats;
+mod roots;
+mod rows;
+mod state;
+mod stop;
+mod table;
+mod types;
+
+pub use laws::table_texts;
+pub use table::read;
+pub use types::{
+    ClassRow, FileRow, Mode, PrefixRow, State, TableFault, TableFile, TableTexts, Tables,
+};
+
+#[cfg(test)]
+mod tests;
