@@ -16,7 +16,7 @@ fn main(rt: HostRuntime) -> ExitCode {
             let mut out = StdSink::new(rt.stdout());
             ExitCode::from(run(rt.alloc(), words.as_slice(), &mut tree, &mut out, &mut errs))
         }
-        Err(refusal) => ExitCode::from(refuse(refusal, &mut errs)),
+        Err(refusal) => ExitCode::from(refuse(rt.alloc(), &refusal, &mut errs)),
     }
 }
 

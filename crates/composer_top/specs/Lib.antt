@@ -1,14 +1,3 @@
-pub mod TableGrammar
-pub mod TableReading
-pub mod Stops
-pub mod Pieces
-pub mod ClassNames
-pub mod Lookup
-pub mod Found
 pub mod Places
-pub mod Candidates
-pub mod FileTexts
-pub mod Groups
-pub mod Refusals
-pub mod Words
+pub mod Chosen
 pub mod Outcome

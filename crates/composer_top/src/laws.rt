@@ -1,11 +1,11 @@
 //! Laws of what commands answer, each as the contract of a function that does nothing.
 
-ghost use Rattle.std.specs.Prelude.{◌≡◌, List, ℕ, Result};
+ghost use Rattle.std.specs.Prelude.{◌≡◌, ℕ, List, Some, Err};
 ghost use Rattle.tree_dev.specs.Trees.{FileTree};
-ghost use Rattle.composer_top.specs.declared.refusal.Refusal.{Refusal};
-ghost use Rattle.composer_top.specs.Outcome.{CommandAnswer};
+ghost use Rattle.run_answers.specs.declared.refusal.Refusal.{Refusal};
+ghost use Rattle.composer_top.specs.Outcome.{outcome_of, words_refusal};
 
-/// Words have one answer over a tree at most.
-pub fn one_answer()
-    ensures { (t : FileTree) (words : List (List ℕ)) (answer other : Result (List (List ℕ)) Refusal) → CommandAnswer t words answer → CommandAnswer t words other → answer ≡ other }
+/// What the words alone refuse is the outcome over every tree.
+pub fn words_first()
+    ensures { (t : FileTree) (words : List (List ℕ)) (refusal : Refusal) → words_refusal words ≡ Some refusal → outcome_of t words ≡ Err refusal }
 {}

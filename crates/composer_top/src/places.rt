@@ -1,26 +1,28 @@
 //! Where the files of a project stand.
 
-ghost use Rattle.std.specs.Prelude.{◌≡◌, ◌++◌, [], ◌∷◌, IfOk, IsOk, Ok};
+ghost use Rattle.std.specs.Prelude.{◌≡◌, ◌++◌, [], ◌∷◌, IfOk, IsOk, Ok, codes};
 ghost use Rattle.path_name.specs.Paths.{path_of};
-ghost use Rattle.composer_top.specs.TableGrammar.{vendor_name};
-ghost use Rattle.composer_top.specs.Places.{composer_name, table_name, table_place};
+ghost use Rattle.table_scan.specs.TableGrammar.{vendor_name};
+ghost use Rattle.run_answers.specs.Messages.{table_name};
+ghost use Rattle.tree_dev.specs.Projects.{journal_path};
+ghost use Rattle.composer_top.specs.Places.{composer_name, table_place};
 
-use crate::table_scan::TableFile;
 use path_name::{Path, PathFault};
 use std::alloc::{AllocError, Global};
-
-/// The project's vendor folder. Its one refusal is want of memory.
-pub fn vendor(alloc: Global, project: &Path) -> Result<Path, AllocError>
-    ensures { IfOk result (λ path. path ≡ project.now ++ vendor_name ∷ []) }
-{
-    project.join(alloc, &known_path(alloc, vendor_text())?)
-}
+use table_scan::TableFile;
 
 /// Where a table file of the project stands. Its one refusal is want of memory.
-pub fn table_file(alloc: Global, project: &Path, file: TableFile) -> Result<Path, AllocError>
-    ensures { IfOk result (λ path. path ≡ table_place project.now file) }
+pub fn table_file(alloc: Global, project: &Path, table: TableFile) -> Result<Path, AllocError>
+    ensures { IfOk result (λ path. path ≡ table_place project.now table) }
 {
-    project.join(alloc, &known_path(alloc, table_text(file))?)
+    project.join(alloc, &known_path(alloc, table_text(table))?)
+}
+
+/// Where the journal of an install stands. Its one refusal is want of memory.
+pub fn journal(alloc: Global, project: &Path) -> Result<Path, AllocError>
+    ensures { IfOk result (λ path. path ≡ journal_path project.now) }
+{
+    project.join(alloc, &known_path(alloc, journal_text())?)
 }
 
 /// The path of a text that names one.
@@ -36,34 +38,20 @@ fn known_path(alloc: Global, text: &[u8]) -> Result<Path, AllocError>
     }
 }
 
-/// The name of a table file.
-#[tactic(auto, unfolding(crate::specs::Places::table_name))]
-pub fn table_name(file: TableFile) -> &'static [u8]
-    ensures { result.now ≡ table_name file }
+fn table_text(table: TableFile) -> &'static [u8]
+    ensures { path_of result.now ≡ Ok (vendor_name ∷ composer_name ∷ table_name table ∷ []) }
 {
-    match file {
-        TableFile::Psr4 => b"autoload_psr4.php",
-        TableFile::Psr0 => b"autoload_namespaces.php",
-        TableFile::ClassMap => b"autoload_classmap.php",
-        TableFile::Files => b"autoload_files.php",
-        TableFile::State => b"autoload_state.php",
-    }
-}
-
-fn vendor_text() -> &'static [u8]
-    ensures { path_of result.now ≡ Ok (vendor_name ∷ []) }
-{
-    b"vendor"
-}
-
-fn table_text(file: TableFile) -> &'static [u8]
-    ensures { path_of result.now ≡ Ok (vendor_name ∷ composer_name ∷ table_name file ∷ []) }
-{
-    match file {
+    match table {
         TableFile::Psr4 => b"vendor/composer/autoload_psr4.php",
         TableFile::Psr0 => b"vendor/composer/autoload_namespaces.php",
         TableFile::ClassMap => b"vendor/composer/autoload_classmap.php",
         TableFile::Files => b"vendor/composer/autoload_files.php",
         TableFile::State => b"vendor/composer/autoload_state.php",
     }
+}
+
+fn journal_text() -> &'static [u8]
+    ensures { path_of result.now ≡ Ok (codes ".install" ∷ codes "journal" ∷ []) }
+{
+    b".install/journal"
 }

@@ -3,54 +3,52 @@ use Rattle.std.proofs.Common.{◌≡◌, Bool, true, false, cond, List, [], ◌�
 use Rattle.std.specs.Map.{lookup}
 use Rattle.std.specs.BTreeMap.{is_at}
 use Rattle.std.specs.Cmp.{eq_by_cmp_equiv}
-use Rattle.std.specs.Ordering.{is_eq}
-use Rattle.std.specs.FinMap.{find, get, insert, remove, from_entries, get-from_entries, get-insert, get-remove, get_tied, same_map, len, len-empty, len-insert, contains_key}
+use Rattle.std.specs.Option.{option_map}
+use Rattle.std.specs.FinMap.{get, insert, remove, get-empty, get-insert, get-remove, same_map, len, len-empty, len-insert, contains_key}
 use Rattle.path_name.specs.Orders.{path_cmp, path_cmp_total, path_cmp_exact}
 use Rattle.path_name.specs.Paths.{EndsWith}
-use Rattle.tree_dev.specs.Told.{equal_of}
 use Rattle.tree_dev.specs.Trees.{FileTree, entry_at, kind_of, kind_at, read_of, read_at}
+use Rattle.tree_dev.specs.Stored.{entry_of, tree_of}
+use Rattle.tree_dev.specs.declared.stored.Stored.{Stored}
 use Rattle.tree_dev.specs.declared.entry.Entry.{Entry}
 use Rattle.tree_dev.specs.declared.entry.Kind.TheVariants as kinds
 use Rattle.tree_dev.specs.declared.entry.ReadAnswer.TheVariants as answers
 
 -- what a list of entries has at a path
-abbrev pub found : List (List (List ℕ) × Entry) → List (List ℕ) → Option Entry
+abbrev pub found : List (List (List ℕ) × Stored) → List (List ℕ) → Option Stored
 found entries path = lookup (is_at (path_cmp path)) entries
 
-find_path : (entries : List (List (List ℕ) × Entry)) (path : List (List ℕ)) → find path_cmp path entries ≡ found entries path
-find_path [] path = refl
-find_path (e ∷ rest) path = ap (cond (is_at (path_cmp path) e.0) (Some e.1)) (find_path rest path)
+chosen : (b : Bool) (x : Stored) (rest : Option Stored) → cond b (Some (entry_of x)) (option_map entry_of rest) ≡ option_map entry_of (cond b (Some x) rest)
+chosen true x rest = refl
+chosen false x rest = refl
+
+dropped : (b : Bool) (rest : Option Stored) → cond b None (option_map entry_of rest) ≡ option_map entry_of (cond b None rest)
+dropped true rest = refl
+dropped false rest = refl
 
 -- what the map that the entries make has at a path
-pub get_path : (entries : List (List (List ℕ) × Entry)) (path : List (List ℕ)) → get (from_entries {R = path_cmp} entries) path ≡ found entries path
-get_path entries path = get-from_entries path_cmp_total entries path ∙ find_path entries path
+pub get_path : (entries : List (List (List ℕ) × Stored)) (path : List (List ℕ)) → get (tree_of entries) path ≡ option_map entry_of (found entries path)
+get_path [] path = get-empty path_cmp path
+get_path (e ∷ rest) path =
+    get-insert path_cmp_total (tree_of rest) e.0 (entry_of e.1) path ∙ ap (cond (is_at (path_cmp path) e.0) (Some (entry_of e.1))) (get_path rest path)
+    ∙ chosen (is_at (path_cmp path) e.0) e.1 (found rest path)
 
 -- entries that differ at one path make maps that differ there
-pub one_put : (old new : List (List (List ℕ) × Entry)) (path : List (List ℕ)) (entry : Entry)
+pub one_put : (old new : List (List (List ℕ) × Stored)) (path : List (List ℕ)) (entry : Stored)
     → ((q : List (List ℕ)) → found new q ≡ cond (is_at (path_cmp path) q) (Some entry) (found old q))
-    → from_entries {R = path_cmp} new ≡ insert (from_entries old) path entry
+    → tree_of new ≡ insert (tree_of old) path (entry_of entry)
 one_put old new path entry h = same_map path_cmp_total path_cmp_exact _ _ (λ q.
-    get_path new q ∙ h q ∙ ap (λ b. cond b (Some entry) (found old q)) ((eq_by_cmp_equiv path_cmp_total).symm path q)
-    ∙ sym (get-insert path_cmp_total (from_entries old) path entry q ∙ ap (cond (is_at (path_cmp q) path) (Some entry)) (get_path old q)))
+    get_path new q ∙ ap (option_map entry_of) (h q) ∙ sym (chosen (is_at (path_cmp path) q) entry (found old q))
+    ∙ ap (λ b. cond b (Some (entry_of entry)) (option_map entry_of (found old q))) ((eq_by_cmp_equiv path_cmp_total).symm path q)
+    ∙ sym (get-insert path_cmp_total (tree_of old) path (entry_of entry) q ∙ ap (cond (is_at (path_cmp q) path) (Some (entry_of entry))) (get_path old q)))
 
-pub one_removed : (old new : List (List (List ℕ) × Entry)) (path : List (List ℕ))
+pub one_removed : (old new : List (List (List ℕ) × Stored)) (path : List (List ℕ))
     → ((q : List (List ℕ)) → found new q ≡ cond (is_at (path_cmp path) q) None (found old q))
-    → from_entries {R = path_cmp} new ≡ remove (from_entries old) path
+    → tree_of new ≡ remove (tree_of old) path
 one_removed old new path h = same_map path_cmp_total path_cmp_exact _ _ (λ q.
-    get_path new q ∙ h q ∙ ap (λ b. cond b None (found old q)) ((eq_by_cmp_equiv path_cmp_total).symm path q)
-    ∙ sym (get-remove path_cmp_total (from_entries old) path q ∙ ap (cond (is_at (path_cmp q) path) None) (get_path old q)))
-
--- what was put where nothing was there, and removed again, leaves the map
-at_either : (m : FileTree) (path q : List (List ℕ)) (entry : Entry) (b : Bool) → is_eq (path_cmp q path) ≡ b → get m path ≡ None
-    → cond b None (cond b (Some entry) (get m q)) ≡ get m q
-at_either m path q entry true e none = sym none ∙ get_tied path_cmp_total m q path (equal_of (path_cmp q path) e)
-at_either m path q entry false e none = refl
-
-pub removed_again : (m : FileTree) (path : List (List ℕ)) (entry : Entry) → get m path ≡ None → remove (insert m path entry) path ≡ m
-removed_again m path entry none = same_map path_cmp_total path_cmp_exact _ _ (λ q.
-    get-remove path_cmp_total (insert m path entry) path q
-    ∙ ap (cond (is_eq (path_cmp q path)) None) (get-insert path_cmp_total m path entry q)
-    ∙ at_either m path q entry (is_eq (path_cmp q path)) refl none)
+    get_path new q ∙ ap (option_map entry_of) (h q) ∙ sym (dropped (is_at (path_cmp path) q) (found old q))
+    ∙ ap (λ b. cond b None (option_map entry_of (found old q))) ((eq_by_cmp_equiv path_cmp_total).symm path q)
+    ∙ sym (get-remove path_cmp_total (tree_of old) path q ∙ ap (cond (is_at (path_cmp q) path) None) (get_path old q)))
 
 no_end : (front : List (List ℕ)) (segment : List ℕ) → ◌≡◌ {A = List (List ℕ)} [] (front ++ segment ∷ []) → ⊥
 no_end [] segment e = cc
@@ -82,9 +80,9 @@ grown true n most le = omega arith
 grown false n most le = omega arith
 
 -- a map has no more entries than the list that makes it
-pub len-from_entries : (entries : List (List (List ℕ) × Entry)) → len (from_entries {R = path_cmp} entries) ≤ length entries
-len-from_entries [] = rw (len-empty path_cmp Entry) (omega arith)
-len-from_entries (e ∷ rest) =
-    rw (len-insert path_cmp_total (from_entries {R = path_cmp} rest) e.0 e.1) (
-    let le = grown (contains_key (from_entries {R = path_cmp} rest) e.0) (len (from_entries {R = path_cmp} rest)) (length rest) (len-from_entries rest) in
+pub len-tree_of : (entries : List (List (List ℕ) × Stored)) → len (tree_of entries) ≤ length entries
+len-tree_of [] = rw (len-empty path_cmp Entry) (omega arith)
+len-tree_of (e ∷ rest) =
+    rw (len-insert path_cmp_total (tree_of rest) e.0 (entry_of e.1)) (
+    let le = grown (contains_key (tree_of rest) e.0) (len (tree_of rest)) (length rest) (len-tree_of rest) in
     omega (arith, le))

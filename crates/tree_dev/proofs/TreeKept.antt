@@ -14,7 +14,7 @@ use Rattle.tree_dev.specs.Trees.{FileTree, entry_at, is_folder, has_folder, is_p
 use Rattle.tree_dev.specs.Memory.{prefixes, above, put_in, filled, blocks, hides, is_misplaced}
 use Rattle.tree_dev.specs.declared.entry.Entry.{Entry}
 use Rattle.tree_dev.specs.declared.entry.Entry.TheVariants as entries
-use Rattle.tree_dev.specs.Told.{one_of, both, equal_paths, tree_from_test}
+use Rattle.tree_dev.specs.Told.{one_of, both, equal_paths}
 use Rattle.tree_dev.proofs.Lookups.{get-put_in, filled_false}
 
 abbrev is_same : List (List ℕ) → List (List ℕ) → Bool
@@ -190,11 +190,6 @@ put_keeps t (first ∷ rest) new tree is_path placed few =
     let each = λ (q : List (List ℕ)) (has : contains_key (put_in t (first ∷ rest) new) q ≡ true).
     placed_after t first rest new tree parts.0 parts.1 is_path q (is_same q (first ∷ rest)) (list_any (eq_by_cmp path_cmp q) (above (first ∷ rest))) refl refl has in
     record { paths = λ q has. (each q has).0; below_folders = λ q has. (each q has).1; few = few }
-
--- the same by the test
-pub put_keeps_test : (t : FileTree) (path : List (List ℕ)) (new : Entry) → is_tree t ≡ true → IsPath path → is_misplaced t path new ≡ false
-    → len (put_in t path new) < 2 ^ 32 → is_tree (put_in t path new) ≡ true
-put_keeps_test t path new tree is_path placed few = test_from_tree (put_in t path new) (put_keeps t path new (tree_from_test t tree) is_path placed few)
 
 pub empty_is_tree : is_tree empty ≡ true
 empty_is_tree = test_from_tree empty (record {

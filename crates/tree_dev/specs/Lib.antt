@@ -1,5 +1,16 @@
 pub mod Trees
+pub mod Changes
+pub mod Disk
 pub mod Device
+pub mod Projects
+pub mod Stored
+pub mod Moves
+pub mod Listing
+pub mod Kinds
+pub mod Placing
+pub mod Recorded
+pub mod Steady
 pub mod Sinks
 pub mod Memory
 pub mod Told
+pub mod Remade

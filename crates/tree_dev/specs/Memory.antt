@@ -1,12 +1,17 @@
 -- What the devices of memory mean, and what their calls leave.
-use Rattle.std.specs.Prelude.{ℕ, zero, suc, ◌+◌, ◌-◌, ◌^◌, min, max, Bool, true, false, ◌||◌, List, [], ◌∷◌, ◌++◌, length, take, Option, Some, None, nat_le, if◌then◌else◌, refl}
+use Rattle.std.specs.Prelude.{◌≡◌, ℕ, zero, suc, ◌-◌, Bool, true, false, ◌||◌, ◌&&◌, List, [], ◌∷◌, ◌++◌, length, take, drop, Option, Some, None, nat_le, if◌then◌else◌, refl}
 use Rattle.std.specs.List.{list_any}
 use Rattle.std.specs.Ordering.{nat_cmp}
 use Rattle.std.specs.FinMap as map
 use Rattle.std.specs.FinSet as set
 use Rattle.std.specs.Coded.{Coded, code_by, coded×, coded_ℕ, coded_list, coded_option}
 use Rattle.tree_dev.specs.Trees.{FileTree, is_tree}
-use Rattle.tree_dev.specs.Device.{Meaning}
+use Rattle.tree_dev.specs.Changes.{has_place}
+use Rattle.tree_dev.specs.Disk.{Disk, Disks, made, reading, with_change, with_base, settled}
+use Rattle.tree_dev.specs.Device.{Meaning, next}
+use Rattle.tree_dev.specs.declared.change.Change.{Change}
+use Rattle.tree_dev.specs.declared.change.Change.TheVariants as changes
+use Rattle.tree_dev.specs.contracts.change.Change as change
 use Rattle.tree_dev.specs.Sinks.{Taken}
 use Rattle.tree_dev.specs.declared.entry.Entry.{Entry}
 use Rattle.tree_dev.specs.declared.entry.Entry.TheVariants as entries
@@ -14,29 +19,100 @@ use Rattle.tree_dev.specs.declared.did.Did.{Did}
 use Rattle.tree_dev.specs.declared.did.Did.TheVariants as dids
 use Rattle.tree_dev.specs.contracts.entry.Entry as entry
 
--- a count of 64 bits after one more: it stands still at its last value
-abbrev pub next : ℕ → ℕ
-next n = max n (min (n + 1) (2 ^ 64 - 1))
-
--- A tree in memory: its entries, how many calls came, the numbers of the calls that are to fail, and how
--- many failed.
+-- A tree in memory: its disk now and at each earlier moment, the numbers of the calls that are to fail and of the
+-- call from which on all are to fail, how many calls came, how many of them were writes, how many found no
+-- memory, and how many failed.
 pub record Memory : Type 0 where
-  pub files : FileTree
-  pub calls : ℕ
+  pub disks : Disks
   pub failing : set.FinSet nat_cmp
+  pub stopped : Option ℕ
+  pub calls : ℕ
+  pub writes : ℕ
+  pub short : ℕ
   pub faults : ℕ
 
--- It tells its entries where they are a tree.
+-- the entries, as they read
+abbrev pub files_of : Memory → FileTree
+files_of m = reading m.disks.now
+
+-- each first part of the changes makes a tree
+abbrev pub are_trees : FileTree → List Change → Bool
+are_trees base [] = is_tree base
+are_trees base (latest ∷ earlier) = is_tree (made base (latest ∷ earlier)) && are_trees base earlier
+
+-- every tree that a crash leaves is one
+unfoldable pub is_sound : Disk → Bool
+is_sound d = are_trees d.base d.pending
+
+-- It tells its entries where they are a tree, whatever a crash leaves.
 abbrev pub told_by : Memory → Meaning
-told_by m = record { told = if is_tree m.files then Some m.files else None; faults = m.faults }
+told_by m = record { told = if is_sound m.disks.now then Some (files_of m) else None; faults = m.faults; writes = m.writes; disks = m.disks }
+
+abbrev pub is_from : Option ℕ → ℕ → Bool
+is_from None number = false
+is_from (Some first) number = nat_le first number
 
 -- whether the next call is to fail
 abbrev pub fails_next : Memory → Bool
-fails_next m = set.contains m.failing (next m.calls)
+fails_next m = set.contains m.failing (next m.calls) || is_from m.stopped (next m.calls)
 
--- after one more call: the tree stays
+-- after a call that was to fail
+abbrev pub after_failure : Memory → Memory
+after_failure m = record m { calls = next m.calls; faults = next m.faults }
+
+-- after a call that found no memory
+abbrev pub after_want_of_memory : Memory → Memory
+after_want_of_memory m = record m { calls = next m.calls; short = next m.short; faults = next m.faults }
+
+-- after a call that failed: it was to, or found no memory
+abbrev pub after_fault : Memory → Memory
+after_fault m = if fails_next m then after_failure m else after_want_of_memory m
+
+-- after a call that read
 abbrev pub after_call : Memory → Memory
-after_call m = record { files = m.files; calls = next m.calls; failing = m.failing; faults = if fails_next m then next m.faults else m.faults }
+after_call m = if fails_next m then after_failure m else record m { calls = next m.calls }
+
+-- the disk after a change, which is made where it has a place
+abbrev pub after_disk_change : Disks → Change → Disks
+after_disk_change disks change = if has_place (reading disks.now) change then with_change disks change else disks
+
+-- after a call that makes a change where it has a place
+abbrev pub after_change : Memory → Change → Memory
+after_change m change = record m { calls = next m.calls; disks = after_disk_change m.disks change }
+
+-- a change as a crash leaves it that puts these bytes into each file that was written, or leaves all bytes whole
+abbrev pub torn_change : Option (List ℕ) → Change → Change
+torn_change None change = change
+torn_change (Some torn) (changes.Written at bytes) = changes.Written at torn
+torn_change (Some torn) (changes.FolderMade at) = changes.FolderMade at
+torn_change (Some torn) (changes.Renamed from to) = changes.Renamed from to
+torn_change (Some torn) (changes.FileRemoved at) = changes.FileRemoved at
+torn_change (Some torn) (changes.FolderRemoved at) = changes.FolderRemoved at
+
+unfoldable pub torn_changes : Option (List ℕ) → List Change → List Change
+torn_changes torn [] = []
+torn_changes torn (latest ∷ earlier) = torn_change torn latest ∷ torn_changes torn earlier
+
+-- The image of a disk that the first so many of its pending changes make, with these bytes in each file that one of
+-- them wrote, wherever a later one of them took it.
+unfoldable pub crashed : Disk → ℕ → Option (List ℕ) → FileTree
+crashed d applied torn = made d.base (torn_changes torn (drop (length d.pending - applied) d.pending))
+
+-- the disk after a crash: this image is safe, and nothing is pending
+abbrev pub after_disk_crash : Disks → ℕ → Option (List ℕ) → Disks
+after_disk_crash disks applied torn = with_base disks (crashed disks.now applied torn)
+
+-- after a crash no call is to fail
+abbrev pub after_crash : Memory → ℕ → Option (List ℕ) → Memory
+after_crash m applied torn = record m { disks = after_disk_crash m.disks applied torn; failing = set.empty; stopped = None }
+
+-- after a barrier
+abbrev pub after_barrier : Memory → Memory
+after_barrier m = record m { calls = next m.calls; disks = settled m.disks }
+
+-- with one more call of write
+abbrev pub one_write : Memory → Memory
+one_write m = record m { writes = next m.writes }
 
 -- the first n segments, the first n - 1, and so on, without the root
 abbrev pub prefixes : ℕ → List (List ℕ) → List (List (List ℕ))
@@ -90,9 +166,21 @@ put_in t path new = map.insert (with_folders t (above path)) path new
 abbrev pub did_put : FileTree → List (List ℕ) → Entry → Did
 did_put t path new = if is_misplaced t path new then dids.Misplaced else dids.Done
 
--- after a put: what is misplaced changes nothing
+-- the disk after a put: the tree is safe, and what is misplaced changes nothing
+abbrev pub after_disk_put : Disks → List (List ℕ) → Entry → Disks
+after_disk_put disks path new = if is_misplaced (reading disks.now) path new then disks else with_base disks (put_in (reading disks.now) path new)
+
 abbrev pub after_put : Memory → List (List ℕ) → Entry → Memory
-after_put m path new = record { files = if is_misplaced m.files path new then m.files else put_in m.files path new; calls = m.calls; failing = m.failing; faults = m.faults }
+after_put m path new = record m { disks = after_disk_put m.disks path new }
+
+-- the root alone
+abbrev pub new_disks : Disks
+new_disks = record { now = record { base = map.empty; pending = [] }; past = [] }
+
+-- the entries are what the record reads, and a crash leaves trees
+pub record IsKept (files : FileTree) (disks : Disks) : Type 0 where
+  pub reads : files ≡ reading disks.now
+  pub sound : is_sound disks.now ≡ true
 
 -- A sink in memory: its bytes, from which put on it fails, how many puts came, how many found no memory,
 -- and how many failed.
@@ -106,10 +194,6 @@ pub record SinkMemory : Type 0 where
 -- It tells its bytes.
 abbrev pub taken_by : SinkMemory → Taken
 taken_by m = record { bytes = Some m.bytes; faults = m.faults }
-
-abbrev pub is_from : Option ℕ → ℕ → Bool
-is_from None number = false
-is_from (Some first) number = nat_le first number
 
 -- whether the next put is to fail
 abbrev pub refuses_next : SinkMemory → Bool
@@ -131,11 +215,19 @@ after_shortage m = record { bytes = m.bytes; fail_from = m.fail_from; puts = nex
 abbrev pub tree_code : Coded FileTree
 tree_code = map.code (coded_list (coded_list coded_ℕ)) entry.the_row.coded
 
+abbrev pub disk_code : Coded Disk
+disk_code = code_by (FileTree × List Change) (coded× tree_code (coded_list change.the_row.coded)) (λ d. (d.base, d.pending)) (λ p. record { base = p.0; pending = p.1 }) (λ _. refl)
+
+abbrev pub disks_code : Coded Disks
+disks_code = code_by (Disk × List Disk) (coded× disk_code (coded_list disk_code)) (λ d. (d.now, d.past)) (λ p. record { now = p.0; past = p.1 }) (λ _. refl)
+
 abbrev pub memory_code : Coded Memory
 memory_code =
-    code_by (FileTree × (ℕ × (set.FinSet nat_cmp × ℕ))) (coded× tree_code (coded× coded_ℕ (coded× (set.code coded_ℕ) coded_ℕ)))
-    (λ m. (m.files, (m.calls, (m.failing, m.faults))))
-    (λ p. record { files = p.0; calls = p.1.0; failing = p.1.1.0; faults = p.1.1.1 }) (λ _. refl)
+    code_by (Disks × (set.FinSet nat_cmp × (Option ℕ × (ℕ × (ℕ × (ℕ × ℕ))))))
+    (coded× disks_code (coded× (set.code coded_ℕ) (coded× (coded_option coded_ℕ) (coded× coded_ℕ (coded× coded_ℕ (coded× coded_ℕ coded_ℕ))))))
+    (λ m. (m.disks, (m.failing, (m.stopped, (m.calls, (m.writes, (m.short, m.faults)))))))
+    (λ p. record { disks = p.0; failing = p.1.0; stopped = p.1.1.0; calls = p.1.1.1.0; writes = p.1.1.1.1.0; short = p.1.1.1.1.1.0; faults = p.1.1.1.1.1.1 })
+    (λ _. refl)
 
 abbrev pub sink_code : Coded SinkMemory
 sink_code =

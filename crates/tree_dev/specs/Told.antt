@@ -1,5 +1,5 @@
 -- A tree in memory tells a tree.
-use Rattle.std.specs.Prelude.{◌≡◌, ℕ, ◌^◌, List, [], ◌∷◌, Bool, true, false, cond, ◌&&◌, ◌||◌, ◌⊎◌, nat_lt, Option, Some, None, refl}
+use Rattle.std.specs.Prelude.{◌≡◌, ℕ, zero, suc, ◌^◌, List, [], ◌∷◌, drop, Bool, true, false, cond, ◌&&◌, ◌||◌, ◌⊎◌, nat_lt, Option, Some, None, Result, IfOk, OnOk, OnErr, ◌≢◌, refl}
 use Rattle.std.proofs.Common.{sym, ap, ◌∙◌, subst, inl, inr}
 use Rattle.std.proofs.lemmas.Bool.{ltb-true}
 use Rattle.std.specs.List.{list_any, list_all}
@@ -10,7 +10,15 @@ use Rattle.std.specs.FinMap.{contains_key, keys, len, contains_key-keys}
 use Rattle.path_name.specs.Orders.{path_cmp, path_cmp_exact}
 use Rattle.path_name.specs.Paths.{is_segment, without_last}
 use Rattle.tree_dev.specs.Trees.{FileTree, has_folder, is_placed, is_tree, IsTree}
-use Rattle.tree_dev.specs.Memory.{Memory, told_by}
+use Rattle.tree_dev.specs.Disk.{Disk, IsOnDisk, made, reading}
+use Rattle.tree_dev.specs.Memory.{Memory, are_trees, is_sound, told_by}
+use Rattle.tree_dev.specs.Device.{Meaning, OfTold, Stays, Adds, MayAdd, Settles, MaySettle}
+use Rattle.tree_dev.specs.declared.change.Change.{Change}
+use Rattle.tree_dev.specs.declared.did.Did.{Did}
+use Rattle.tree_dev.specs.declared.did.Did.TheVariants as dids
+use Rattle.tree_dev.specs.declared.did.Made.{Made}
+use Rattle.tree_dev.specs.declared.did.Made.TheVariants as mades
+use Rattle.tree_dev.specs.declared.fault.Failed.{Failed}
 
 -- tests that are joined
 pub one_of : (first rest : Bool) → (first || rest) ≡ true → (first ≡ true) ⊎ (rest ≡ true)
@@ -50,14 +58,46 @@ tree_from_test t e =
       few = ltb-true (len t) (2 ^ 32) parts.1;
     }
 
-told_case : (files t : FileTree) (b : Bool) → is_tree files ≡ b → cond b (Some files) None ≡ Some t → IsTree t
-told_case files t true e told = let same : files ≡ t = cc in subst IsTree same (tree_from_test files e)
-told_case files t false e told = absurd cc
+-- each first part of the pending changes makes a tree
+pub part_is_tree : (base : FileTree) (pending : List Change) (lost : ℕ) → are_trees base pending ≡ true → is_tree (made base (drop lost pending)) ≡ true
+unfolding made
+part_is_tree base [] zero e = e
+part_is_tree base [] (suc lost) e = e
+part_is_tree base (latest ∷ earlier) zero e = (both (is_tree (made base (latest ∷ earlier))) (are_trees base earlier) e).0
+part_is_tree base (latest ∷ earlier) (suc lost) e = part_is_tree base earlier lost (both (is_tree (made base (latest ∷ earlier))) (are_trees base earlier) e).1
 
--- what a tree in memory tells is a tree
+told_case : (d : Disk) (t : FileTree) (b : Bool) → is_sound d ≡ b → cond b (Some (reading d)) None ≡ Some t → IsOnDisk d t
+unfolding is_sound
+told_case d t true e told = record { reads = cc; trees = λ lost. tree_from_test (made d.base (drop lost d.pending)) (part_is_tree d.base d.pending lost e) }
+told_case d t false e told = absurd cc
+
+-- what a tree in memory tells stands on its disk
+pub told_is_on_disk : (m : Memory) (t : FileTree) → (told_by m).told ≡ Some t → IsOnDisk m.disks.now t
+told_is_on_disk m t told = told_case m.disks.now t (is_sound m.disks.now) refl told
+
+-- it is a tree
 pub told_is_tree : (m : Memory) (t : FileTree) → (told_by m).told ≡ Some t → IsTree t
-told_is_tree m t told = told_case m.files t (is_tree m.files) refl told
+told_is_tree m t told = let on = told_is_on_disk m t told in subst IsTree (sym on.reads) (on.trees zero)
 
 -- a device that tells nothing
 pub nothing_is_told : (t : FileTree) → ◌≡◌ {A = Option FileTree} None (Some t) → IsTree t
 nothing_is_told t told = absurd cc
+
+pub nothing_is_on_disk : (d : Disk) (t : FileTree) → ◌≡◌ {A = Option FileTree} None (Some t) → IsOnDisk d t
+nothing_is_on_disk d t told = absurd cc
+
+-- what the trait says of a call that makes a change, of one that makes a folder, and of a barrier
+pub record TellsChange (before now : Meaning) (change : Change) (result : Result Did Failed) : Type 0 where
+  pub done : IfOk result (λ answer. answer ≡ dids.Done → OfTold before (λ _. Adds before now change))
+  pub misplaced : IfOk result (λ answer. answer ≡ dids.Misplaced → Stays before now)
+  pub moments : MayAdd before now change
+
+pub record TellsFolder (before now : Meaning) (change : Change) (result : Result Made Failed) : Type 0 where
+  pub done : IfOk result (λ answer. answer ≡ mades.New → OfTold before (λ _. Adds before now change))
+  pub misplaced : IfOk result (λ answer. answer ≢ mades.New → Stays before now)
+  pub moments : MayAdd before now change
+
+pub record TellsBarrier (before now : Meaning) (result : Result (Unit {0}) Failed) : Type 0 where
+  pub done : OnOk result (OfTold before (λ _. Settles before now))
+  pub failed : OnErr result (Stays before now)
+  pub moments : MaySettle before now

@@ -8,3 +8,14 @@ pub enum Did {
     /// The tree has no place for it, and nothing changed.
     Misplaced,
 }
+
+/// What making a folder answers.
+#[derive(Clone, Copy, Debug, PartialEq, Eq)]
+pub enum Made {
+    /// The folder was made.
+    New,
+    /// An entry is there already, and nothing changed.
+    Exists,
+    /// The tree has no place for it, and nothing changed.
+    Misplaced,
+}

@@ -1,6 +1,6 @@
 //! What stands at a path, and what calls answer of it.
 
-use path_name::Text;
+use path_name::{Items, Name, Text};
 
 /// An entry of a tree.
 #[derive(Debug, PartialEq, Eq, Drop)]
@@ -37,4 +37,17 @@ pub enum ReadAnswer {
     NotFile,
     /// The file has more bytes than were allowed.
     TooLong,
+}
+
+/// What `list` answers.
+#[derive(Debug, PartialEq, Eq, Drop)]
+pub enum ListAnswer {
+    /// The names of all entries of the folder, in byte order. Each is a segment of a path.
+    Names(Items<Name>),
+    /// Nothing is there, also where an entry above is no folder.
+    Absent,
+    /// A file or another entry that is no folder.
+    NotFolder,
+    /// The folder has more entries than were allowed.
+    TooMany,
 }

@@ -1,6 +1,6 @@
 //! Laws of what devices mean, each as the contract of a function that does nothing.
 
-ghost use Rattle.std.specs.Prelude.{◌≡◌, ◌<◌, ◌^◌, ◌++◌, Bool, false, List, ℕ, Some, if◌then◌else◌};
+ghost use Rattle.std.specs.Prelude.{◌≡◌, ◌<◌, ◌^◌, ◌++◌, ◌-◌, Bool, false, List, ℕ, Some, if◌then◌else◌};
 ghost use Rattle.std.specs.List.{list_any};
 ghost use Rattle.std.specs.Ordering.{eq_by_cmp};
 ghost use Rattle.std.specs.FinMap as map;
@@ -11,6 +11,10 @@ ghost use Rattle.tree_dev.specs.Memory.{above, filled, is_misplaced, put_in};
 ghost use Rattle.tree_dev.specs.declared.entry.Entry.{Entry};
 ghost use Rattle.tree_dev.specs.Device.{Meaning, OnlyRead};
 ghost use Rattle.tree_dev.specs.Sinks.{Taken, Takes, TakesPart};
+
+use crate::limits::{
+    CANDIDATES, DEPTH, ENTRIES, FILE_BYTES, LAST_GENERATION, PACKAGES, POOL_BYTES,
+};
 
 /// Two readings in a row are one reading, whether the second failed or not.
 pub fn two_readings_are_one()
@@ -48,4 +52,15 @@ pub fn put_changes_no_more()
 pub fn put_leaves_a_tree()
     ensures { (t : FileTree) (path : List (List ℕ)) (entry : Entry) → IsTree t → IsPath path → is_misplaced t path entry ≡ false
         → map.len (put_in t path entry) < 2 ^ 32 → IsTree (put_in t path entry) }
+{}
+
+/// The limits have these numbers.
+pub fn limits_have_their_numbers()
+    ensures file_bytes { FILE_BYTES ≡ 67108864 }
+    ensures pool_bytes { POOL_BYTES ≡ 67108864 }
+    ensures depth { DEPTH ≡ 64 }
+    ensures entries { ENTRIES ≡ 1000000 }
+    ensures packages { PACKAGES ≡ 4096 }
+    ensures candidates { CANDIDATES ≡ 512 }
+    ensures last_generation { LAST_GENERATION ≡ 2 ^ 64 - 1 }
 {}

@@ -1,50 +1,53 @@
 //! Entries that are put into a tree in memory.
 
-ghost use Rattle.std.specs.Prelude.{◌≡◌, ◌<◌, ◌^◌, length, OnOk, OnErr, IfOk};
+ghost use Rattle.std.specs.Prelude.{◌≡◌, ◌&&◌, ℕ, List, IsTrue, OnOk, OnErr, IfOk, is_none};
 ghost use Rattle.std.specs.List.{list_any};
-ghost use Rattle.std.specs.Option.{option_copied};
+ghost use Rattle.std.specs.Option.{option_copied, option_map};
 ghost use Rattle.std.specs.FinMap as map;
 ghost use Rattle.path_name.specs.Paths.{IsPath};
-ghost use Rattle.tree_dev.specs.Memory.{blocks, hides, is_misplaced, prefixes, put_in, with_folders};
+ghost use Rattle.tree_dev.specs.Memory.{above, blocks, hides, is_misplaced, put_in};
+ghost use Rattle.tree_dev.specs.Moves.{is_among, paths_of};
+ghost use Rattle.tree_dev.specs.Placing.{AreFolders};
+ghost use Rattle.tree_dev.specs.Stored.{entry_of};
 
-use crate::Entry;
 use crate::files::Files;
+use crate::moves::{self, Placed};
+use crate::stored::Stored;
 use path_name::Path;
 use std::alloc::{AllocError, Global};
 
 /// Whether no folder can be there.
-fn blocks(present: Option<&Entry>) -> bool
-    ensures { result ≡ blocks (option_copied present.entry) }
+fn blocks(present: Option<&Stored>) -> bool
+    ensures { result ≡ blocks (option_map entry_of (option_copied present.entry)) }
 {
     match present {
-        None | Some(Entry::Folder) => false,
-        Some(Entry::File(_) | Entry::Other) => true,
+        None | Some(Stored::Folder) => false,
+        Some(Stored::File(_) | Stored::Other) => true,
     }
 }
 
 /// Whether the entry that is there is a folder that this one can't replace.
-fn hides(present: Option<&Entry>, entry: &Entry) -> bool
-    ensures { result ≡ hides (option_copied present.entry) entry.now }
+fn hides(present: Option<&Stored>, entry: &Stored) -> bool
+    ensures { result ≡ hides (option_map entry_of (option_copied present.entry)) (entry_of entry.now) }
 {
     match (present, entry) {
-        (Some(Entry::Folder), Entry::File(_) | Entry::Other) => true,
+        (Some(Stored::Folder), Stored::File(_) | Stored::Other) => true,
         _ => false,
     }
 }
 
-/// Whether something that is no folder is at a path, or above it.
+/// Whether something that is no folder is above a path.
 fn is_blocked(files: &Files, alloc: Global, at: &Path) -> Result<bool, AllocError>
-    ensures { IfOk result (λ blocked. blocked ≡ list_any (λ folder. blocks (map.get files.now folder)) (prefixes (length at.now) at.now)) }
+    ensures { IfOk result (λ blocked. blocked ≡ list_any (λ folder. blocks (map.get files.now folder)) (above at.now)) }
 {
-    match at.parent(alloc)? {
-        None => Ok(false),
-        Some(parent) => {
-            if blocks(files.get(at)) {
-                return Ok(true);
-            }
-            is_blocked(files, alloc, &parent)
+    let mut folder = at.copy(alloc)?;
+    for _level in 1..at.depth() {
+        folder.leave();
+        if blocks(files.get(&folder)) {
+            return Ok(true);
         }
     }
+    Ok(false)
 }
 
 /// Whether a tree has no place for an entry at a path.
@@ -53,60 +56,49 @@ pub fn is_misplaced(
     files: &Files,
     alloc: Global,
     at: &Path,
-    entry: &Entry,
+    entry: &Stored,
 ) -> Result<bool, AllocError>
-    ensures exact { IfOk result (λ misplaced. misplaced ≡ is_misplaced files.now at.now entry.now) }
-    ensures path { IsPath at.now }
+    ensures { IfOk result (λ misplaced. misplaced ≡ is_misplaced files.now at.now (entry_of entry.now)) }
 {
-    // The contract of the text says that the segments are a path.
-    let _text = at.text();
-    match at.parent(alloc)? {
-        None => Ok(true),
-        Some(parent) => {
-            if is_blocked(files, alloc, &parent)? {
-                return Ok(true);
-            }
-            Ok(hides(files.get(at), entry))
-        }
+    if at.is_root() {
+        return Ok(true);
     }
+    if is_blocked(files, alloc, at)? {
+        return Ok(true);
+    }
+    Ok(hides(files.get(at), entry))
 }
 
-/// Makes folders where nothing is there, at a path and above it, and then puts the entry at its own path.
-fn put_below(
-    files: &mut Files,
-    alloc: Global,
-    folder: &Path,
-    at: Path,
-    entry: Entry,
-) -> Result<(), AllocError>
-    ensures ok { OnOk result (files.new ≡ map.insert (with_folders files.old (prefixes (length folder.now) folder.now)) at entry) }
-    ensures few { OnOk result (map.len files.new < 2 ^ 32) }
-    ensures err { OnErr result (files.new ≡ files.old) }
+/// A folder for each path above another where nothing is.
+fn missing_folders(files: &Files, alloc: Global, at: &Path) -> Result<Vec<Placed>, AllocError>
+    ensures paths { IfOk result (λ folders. (q : List (List ℕ)) → is_among q (paths_of folders.items) ≡ (is_among q (above at.now) && is_none (map.get files.now q))) }
+    ensures folders { IfOk result (λ folders. AreFolders folders.items) }
 {
-    let Some(parent) = folder.parent(alloc)? else {
-        return files.insert(at, entry);
-    };
-    if files.contains(folder) {
-        return put_below(files, alloc, &parent, at, entry);
+    let mut folders = Vec::new(alloc);
+    let mut folder = at.copy(alloc)?;
+    for _level in 1..at.depth() {
+        folder.leave();
+        if !files.contains(&folder) {
+            folders.push(Placed {
+                at: folder.copy(alloc)?,
+                entry: Stored::Folder,
+            })?;
+        }
     }
-    files.insert(folder.copy(alloc)?, Entry::Folder)?;
-    if let Err(fault) = put_below(files, alloc, &parent, at, entry) {
-        files.remove(folder);
-        return Err(fault);
-    }
-    Ok(())
+    Ok(folders)
 }
 
 /// Puts an entry at a path that is not the root, and makes the folders that are missing above it.
-#[tactic(auto, unfolding(crate::specs::Memory::put_in))]
-pub fn put(files: &mut Files, alloc: Global, at: &Path, entry: Entry) -> Result<(), AllocError>
-    ensures ok { OnOk result (files.new ≡ put_in files.old at.now entry) }
-    ensures few { OnOk result (map.len files.new < 2 ^ 32) }
+pub fn put(files: &mut Files, alloc: Global, at: &Path, entry: Stored) -> Result<(), AllocError>
+    ensures ok { OnOk result (files.new ≡ put_in files.old at.now (entry_of entry)) }
     ensures err { OnErr result (files.new ≡ files.old) }
 {
+    let folders = missing_folders(files, alloc, at)?;
     let path = at.copy(alloc)?;
-    match at.parent(alloc)? {
-        None => files.insert(path, entry),
-        Some(parent) => put_below(files, alloc, &parent, path, entry),
+    moves::put_all(files, alloc, folders.as_slice())?;
+    if let Err(fault) = files.insert(path, entry) {
+        moves::remove_placed(files, folders.as_slice());
+        return Err(fault);
     }
+    Ok(())
 }

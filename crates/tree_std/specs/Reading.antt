@@ -2,8 +2,8 @@
 use Rattle.std.specs.Prelude.{ℕ, ◌≤◌, length}
 use Rattle.std.specs.declared.io.ErrorKind.{ErrorKind}
 use Rattle.std.specs.declared.io.ErrorKind.TheVariants as kinds
-use Rattle.tree_std.specs.declared.reading.Trouble.{Trouble}
-use Rattle.tree_std.specs.declared.reading.Trouble.TheVariants as troubles
+use Rattle.tree_std.specs.declared.trouble.Trouble.{Trouble}
+use Rattle.tree_std.specs.declared.trouble.Trouble.TheVariants as troubles
 use Rattle.tree_dev.specs.declared.entry.ReadAnswer.{ReadAnswer}
 use Rattle.tree_dev.specs.declared.entry.ReadAnswer.TheVariants as answers
 
@@ -18,6 +18,7 @@ IsBounded most answers.NotFile = ⊥
 abbrev pub trouble_of : ErrorKind → Trouble
 trouble_of kinds.NotFound = troubles.Absent
 trouble_of kinds.NotADirectory = troubles.Absent
+trouble_of kinds.FilesystemLoop = troubles.Absent
 trouble_of kinds.InvalidFilename = troubles.Absent
 trouble_of kinds.OutOfMemory = troubles.OutOfMemory
 trouble_of _ = troubles.Failed

@@ -1,0 +1,4 @@
+pub mod RowGroups
+pub mod TableRoutes
+pub mod Prefixes
+pub mod Lookups

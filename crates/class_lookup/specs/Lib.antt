@@ -1,0 +1,4 @@
+pub mod ClassNames
+pub mod Lookup
+pub mod Groups
+pub mod Found

@@ -1,9 +1,0 @@
-use Rattle.std.proofs.Common.{◌≡◌, ℕ, length, []}
-use Rattle.composer_top.specs.Groups.{group_at}
-use Rattle.composer_top.proofs.class_lookup.groups.empty_groups.Given as goal
-
-abbrev pub invariant-loop : goal.invariant-loop
-invariant-loop l = record {
-  count : length l.groups.items ≡ l.counter;
-  each : (len : ℕ) → group_at l.groups.items len ≡ [];
-}

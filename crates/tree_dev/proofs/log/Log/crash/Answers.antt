@@ -1,0 +1,14 @@
+use Rattle.std.proofs.Common.{refl, ap, ◌∙◌}
+use Rattle.tree_dev.specs.Memory.{after_disk_crash, new_disks}
+use Rattle.tree_dev.specs.declared.log.Step.TheVariants as steps
+use Rattle.tree_dev.proofs.Logs.{recorded-snoc, sound_safe}
+use Rattle.tree_dev.proofs.log.Log.crash.Goals as goal
+
+pub invariant_of-self-2 : goal.invariant_of-self-2
+invariant_of-self-2 c =
+    rw (c.len-self-inside.ensures, c.push.new.self.ok.0, c.in_ok-push.ensures.items) (sound_safe c.self.inside.steps.items c.self.inside.safe (steps.Crashed c.args.applied c.args.torn) c.self.invariant tt refl)
+
+pub returns-clause-ok : goal.returns-clause-ok
+returns-clause-ok c =
+    rw c.in_ok-push.ensures.items (recorded-snoc c.self.inside.steps.items new_disks (steps.Crashed c.args.applied c.args.torn))
+    ∙ ap (λ d. after_disk_crash d c.args.applied c.args.torn) c.self.view_is

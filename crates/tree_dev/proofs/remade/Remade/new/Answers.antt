@@ -1,0 +1,5 @@
+use Rattle.tree_dev.proofs.Remaking.{can_make_none}
+use Rattle.tree_dev.proofs.remade.Remade.new.Goals as goal
+
+pub invariant_of-result : goal.invariant_of-result
+invariant_of-result c = rw c.new-2.ensures.items (can_make_none c.new.result)
