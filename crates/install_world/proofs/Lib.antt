@@ -1,0 +1,12 @@
+pub mod ApartPaths
+pub mod Cuts
+pub mod FirstLine
+pub mod Grammar
+pub mod GrammarLines
+pub mod LineWords
+pub mod OneJournal
+pub mod PathBytes
+pub mod Places
+pub mod ReadJournal
+pub mod ReadTargets
+pub mod TargetLines

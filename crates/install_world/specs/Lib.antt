@@ -1,0 +1,4 @@
+pub mod Targets
+pub mod Lines
+pub mod JournalText
+pub mod Reading

@@ -1,0 +1,25 @@
+//! The journal of a project's installs: its text, read and written.
+#![tactic(auto)]
+
+mod apart;
+mod fault;
+mod journal;
+mod laws;
+mod lines;
+mod reader;
+mod reading;
+mod target;
+mod version;
+mod words;
+mod writing;
+
+pub use fault::JournalFault;
+pub use journal::Journal;
+pub use laws::{bad_journals_have_one_place, journal_texts_are_read};
+pub use reading::read_journal;
+pub use target::{Target, is_target_path};
+pub use version::Version;
+pub use writing::journal_text;
+
+#[cfg(test)]
+mod tests;
