@@ -26,7 +26,7 @@ use Rattle.constraint_set.proofs.Members.{both, IsIn, all_at, all_from, none_fro
 use Rattle.constraint_set.proofs.Openness.{branch_opens, any_named}
 use Rattle.constraint_set.proofs.Limits.{all_leave_room}
 
-turned : (v w : Numbered) → numbered_cmp v w ≡ ordering_reverse (numbered_cmp w v)
+pub turned : (v w : Numbered) → numbered_cmp v w ≡ ordering_reverse (numbered_cmp w v)
 turned v w = numbered_cmp_total.antisymm v w
 
 same_itself : (v : Numbered) → numbered_cmp v v ≡ Equal
@@ -169,7 +169,7 @@ some_satisfied (list ∷ lists) v e =
       | false ↦ λ is h. let found = some_satisfied lists v h in (found.0, inr found.1, found.2)
     ] refl e
 
-any_from : (p : List Comparison → Bool) (lists : List (List Comparison)) (list : List Comparison) → IsIn list lists → p list ≡ true → list_any p lists ≡ true
+pub any_from : (p : List Comparison → Bool) (lists : List (List Comparison)) (list : List Comparison) → IsIn list lists → p list ≡ true → list_any p lists ≡ true
 any_from p [] list is e = absurd is
 any_from p (next ∷ rest) list (inl same) e = let first : p next ≡ true = ap p (sym same) ∙ e in rw first refl
 any_from p (next ∷ rest) list (inr is) e = rw (any_from p rest list is e) (or_true (p next))

@@ -11,11 +11,11 @@ use Rattle.version_norm.specs.Versions.{without_blanks_before}
 use Rattle.version_norm.proofs.Digits.{front_passes}
 use Rattle.constraint_set.specs.Words.{is_in_word, word_len, word_here, next_word}
 use Rattle.constraint_set.specs.Grammar.{IsBlanks, IsGap, IsWord}
+use Rattle.constraint_set.specs.Faults.{BeginsWithout}
 
 -- nothing, or a byte that does not pass
 abbrev pub Stops : (ℕ → Bool) → List ℕ → Type 0
-Stops p [] = Unit {0}
-Stops p (byte ∷ rest) = p byte ≡ false
+Stops p text = BeginsWithout p text
 
 pub front_stops : (p : ℕ → Bool) (text : List ℕ) → Stops p (drop (prefix_len p text) text)
 front_stops p [] = tt
@@ -50,7 +50,7 @@ pub record TakesWord (text : List ℕ) (x : List ℕ × List ℕ) : Type 0 where
 abbrev found : List ℕ → List ℕ → Option (List ℕ × List ℕ)
 found word rest = Some (word, rest)
 
-same_word : (x y : List ℕ × List ℕ) → ◌≡◌ {A = Option (List ℕ × List ℕ)} (Some x) (Some y) → x ≡ y
+pub same_word : (x y : List ℕ × List ℕ) → ◌≡◌ {A = Option (List ℕ × List ℕ)} (Some x) (Some y) → x ≡ y
 same_word x y e = cc
 
 pub word_here_takes : (text : List ℕ) (x : List ℕ × List ℕ) → word_here text ≡ Some x → TakesWord text x

@@ -7,3 +7,7 @@ pub mod CommonVersions
 pub mod Fronts
 pub mod ReadTexts
 pub mod SpelledTexts
+pub mod CommonPoints
+pub mod LongestParts
+pub mod FaultPlaces
+pub mod Completed

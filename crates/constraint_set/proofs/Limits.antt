@@ -35,7 +35,7 @@ limit_total side = then_total (on_total version_in (side_total side)) (on_total 
 
 -- ---- no limit is tighter than the tightest
 
-abbrev IsReached : Side → Limit → Option Limit → Type 0
+abbrev pub IsReached : Side → Limit → Option Limit → Type 0
 IsReached side x None = ⊥
 IsReached side x (Some e) = is_gt (limit_cmp side x e) ≡ false
 
@@ -68,7 +68,7 @@ reached_all : (side : Side) (x : Limit) (so_far : Option Limit) (list : List Com
 reached_all side x so_far [] is = is
 reached_all side x so_far (next ∷ rest) is = reached_all side x (tighter_of side so_far (limit_in side next)) rest (reached_last side x so_far (limit_in side next) is)
 
-reached_in : (side : Side) (x : Limit) (c : Comparison) (so_far : Option Limit) (list : List Comparison) → IsIn c list → limit_in side c ≡ Some x → IsReached side x (tightest_of side so_far list)
+pub reached_in : (side : Side) (x : Limit) (c : Comparison) (so_far : Option Limit) (list : List Comparison) → IsIn c list → limit_in side c ≡ Some x → IsReached side x (tightest_of side so_far list)
 reached_in side x c so_far [] is e = absurd is
 reached_in side x c so_far (next ∷ rest) (inl same) e =
     let limit : limit_in side next ≡ Some x = ap (limit_in side) (sym same) ∙ e in
@@ -115,7 +115,7 @@ room_is list low high = by (is_lower low.operator) (is_upper high.operator) low.
 
 -- ---- tighter limits that leave room
 
-below_cases : (o : Ordering) (a b : Bool) → is_gt (ordering_then o (bool_cmp a b)) ≡ false → (o ≡ Less) ⊎ ((o ≡ Equal) × (b ≡ false → a ≡ false))
+pub below_cases : (o : Ordering) (a b : Bool) → is_gt (ordering_then o (bool_cmp a b)) ≡ false → (o ≡ Less) ⊎ ((o ≡ Equal) × (b ≡ false → a ≡ false))
 below_cases Less a b e = inl refl
 below_cases Equal true true e = inr (refl, λ h. h)
 below_cases Equal true false e = absurd cc

@@ -21,7 +21,7 @@ use Rattle.constraint_set.proofs.Limits.{room_is, all_leave_room, pairs_are_ends
 
 -- ---- the branch that is named
 
-none_named : (list : List Comparison) → first_branch list ≡ None → list_any names_branch list ≡ false
+pub none_named : (list : List Comparison) → first_branch list ≡ None → list_any names_branch list ≡ false
 none_named [] e = refl
 none_named (next ∷ rest) e =
     elim (names_branch next) as (λ t. cond t (Some next.version) (first_branch rest) ≡ None → (t || list_any names_branch rest) ≡ false) [
@@ -77,7 +77,7 @@ unbounded : (list : List Comparison) → list_any bounds_numbers list ≡ false 
 unbounded list none = all_from (λ low. list_all (leave_room list low) list) list (λ low is. all_from (leave_room list low) list (λ high also.
     room_is list low high ∙ ap (λ (limit : Option Limit). room_at list limit (limit_in sides.Upper high)) (no_limit sides.Lower low.operator low.version _ (none_at bounds_numbers list low none is))))
 
-open_by_room : (list : List Comparison) → list_any orders_branch list ≡ false → first_branch list ≡ None → is_open list ≡ room_at list (tightest_of sides.Lower None list) (tightest_of sides.Upper None list)
+pub open_by_room : (list : List Comparison) → list_any orders_branch list ≡ false → first_branch list ≡ None → is_open list ≡ room_at list (tightest_of sides.Lower None list) (tightest_of sides.Upper None list)
 open_by_room list ordered unnamed = rw (ordered, none_named list unnamed) (by (list_any bounds_numbers list) refl ∙ pairs_are_ends list)
   where
     by : (t : Bool) → list_any bounds_numbers list ≡ t → (all_leave_room list || (not t && list_all (λ first. list_all (agree first) list) list)) ≡ all_leave_room list
@@ -132,7 +132,7 @@ branch_opens list branch is_one all =
           | false ↦ λ names. refl
         ] refl
 
-open_at_branch : (list : List Comparison) (branch : Version) → list_any orders_branch list ≡ false → first_branch list ≡ Some branch → is_open list ≡ all_hold_at branch list
+pub open_at_branch : (list : List Comparison) (branch : Version) → list_any orders_branch list ≡ false → first_branch list ≡ Some branch → is_open list ≡ all_hold_at branch list
 open_at_branch list branch ordered found =
     rw (ordered, any_named list there.at there.is there.names) (both_ways (is_open_branch list) (all_hold_at branch list) forward backward)
   where

@@ -71,7 +71,7 @@ behind_takes (Some second) w rest e is stops =
       | false ↦ λ dash. operated_takes (operator_word w) w rest second refl is stops next
     ] refl
 
-form_takes : (w rest : List ℕ) → IsWord w → Stops is_in_word rest → TakesForm (w ++ rest) (form_at w rest)
+pub form_takes : (w rest : List ℕ) → IsWord w → Stops is_in_word rest → TakesForm (w ++ rest) (form_at w rest)
 unfolding form_at
 form_takes w rest is stops = behind_takes (next_word rest) w rest refl is stops
 
@@ -133,10 +133,10 @@ pub record TakesJoint (text : List ℕ) (x : Joint × List ℕ) : Type 0 where
   pub whole : text ≡ taken ++ x.1
   pub joins : (before : List ℕ) → IsBlanks before → IsJoint (taken ++ before) x.0
 
-same_joint : (x y : Joint × List ℕ) → ◌≡◌ {A = Option (Joint × List ℕ)} (Some x) (Some y) → x ≡ y
+pub same_joint : (x y : Joint × List ℕ) → ◌≡◌ {A = Option (Joint × List ℕ)} (Some x) (Some y) → x ≡ y
 same_joint x y e = cc
 
-blanks_append : (a b : List ℕ) → IsBlanks a → IsBlanks b → IsBlanks (a ++ b)
+pub blanks_append : (a b : List ℕ) → IsBlanks a → IsBlanks b → IsBlanks (a ++ b)
 blanks_append [] b x y = y
 blanks_append (c ∷ cs) b x y =
     let h = both (is_blank c) (list_all is_blank cs) x in
@@ -163,7 +163,7 @@ barred (b ∷ bs) =
 in_word_of : (byte : ℕ) → is_blank byte ≡ false → (byte == 44) ≡ false → is_bar byte ≡ false → is_in_word byte ≡ true
 in_word_of byte blank no_comma no_bar = rw (blank, no_comma, no_bar) refl
 
-joint_takes : (text : List ℕ) (x : Joint × List ℕ) → Stops is_in_word text → joint_at text ≡ Some x → TakesJoint text x
+pub joint_takes : (text : List ℕ) (x : Joint × List ℕ) → Stops is_in_word text → joint_at text ≡ Some x → TakesJoint text x
 joint_takes text x stops e = by (without_blanks_before text) (trimmed_front text).whole (trimmed_front text).stops e
   where
     cut : Trimmed text
@@ -213,7 +213,7 @@ joined joint left = Some (joint, left)
 no_some : (x : Joint × List ℕ) → ◌≡◌ {A = Option (Joint × List ℕ)} (Some x) None → ⊥
 no_some x e = cc
 
-no_joint : (text : List ℕ) → joint_at text ≡ None → IsBlanks text
+pub no_joint : (text : List ℕ) → joint_at text ≡ None → IsBlanks text
 no_joint text e = by (without_blanks_before text) (trimmed_front text).whole e
   where
     cut : Trimmed text

@@ -26,6 +26,7 @@ use Rattle.version_norm.specs.Versions.{normal_form, unflagged_form, numbered_fo
 use Rattle.version_norm.specs.Pieces.{number_at, part_at as piece_at, branch_part_at, suffix_of, suffix_at, following_within, dev_at_end}
 use Rattle.constraint_set.specs.Constraints.{part_from, part_or_missing, part_at, parts_within, parts_of, constraint_of}
 use Rattle.constraint_set.specs.Grammar.{IsBlanks, IsGap, IsWord, IsFormOf, word, comparison, span, IsJoint, blanks, comma, bar, IsParts, last, more, IsConstraint, own_version, read_parts}
+use Rattle.constraint_set.specs.Faults.{IsUnread}
 use Rattle.constraint_set.proofs.Members.{both, IsIn}
 use Rattle.constraint_set.proofs.Fronts.{Stops}
 use Rattle.constraint_set.proofs.ReadTexts.{form_long}
@@ -39,29 +40,29 @@ all_front p (c ∷ cs) rest all stops =
     let h = both (p c) (list_all p cs) all in
     rw (h.0, one-add) (ap suc (all_front p cs rest h.1 stops))
 
-take_front : (front rest : List ℕ) → take (length front) (front ++ rest) ≡ front
+pub take_front : (front rest : List ℕ) → take (length front) (front ++ rest) ≡ front
 take_front [] rest = refl
 take_front (c ∷ cs) rest = ap (λ (y : List ℕ). c ∷ y) (take_front cs rest)
 
-drop_front : (front rest : List ℕ) → drop (length front) (front ++ rest) ≡ rest
+pub drop_front : (front rest : List ℕ) → drop (length front) (front ++ rest) ≡ rest
 drop_front [] rest = refl
 drop_front (c ∷ cs) rest = drop_front cs rest
 
-word_front : (w rest : List ℕ) → IsWord w → Stops is_in_word rest → word_here (w ++ rest) ≡ Some (w, rest)
+pub word_front : (w rest : List ℕ) → IsWord w → Stops is_in_word rest → word_here (w ++ rest) ≡ Some (w, rest)
 word_front w rest is stops =
     let long = all_front is_in_word w rest is.all stops in
     let some : ltb 0 (length w) ≡ true = lt-ltb 0 (length w) is.some in
     rw (long, some, take_front w rest, drop_front w rest) refl
 
-blanks_front : (b rest : List ℕ) → IsBlanks b → Stops is_blank rest → without_blanks_before (b ++ rest) ≡ rest
+pub blanks_front : (b rest : List ℕ) → IsBlanks b → Stops is_blank rest → without_blanks_before (b ++ rest) ≡ rest
 blanks_front b rest blank stops = rw (all_front is_blank b rest blank stops) (drop_front b rest)
 
-no_word : (rest : List ℕ) → Stops is_in_word rest → word_here rest ≡ None
+pub no_word : (rest : List ℕ) → Stops is_in_word rest → word_here rest ≡ None
 no_word [] stops = refl
 no_word (b ∷ bs) stops = rw stops refl
 
 -- a word begins with no blank, and a blank with no word
-word_no_blank : (w rest : List ℕ) → IsWord w → Stops is_blank (w ++ rest)
+pub word_no_blank : (w rest : List ℕ) → IsWord w → Stops is_blank (w ++ rest)
 word_no_blank [] rest is = absurd (let h = is.some in omega arith)
 word_no_blank (b ∷ bs) rest is = by (is_blank b) refl is.all
   where
@@ -76,39 +77,35 @@ gap_stops : (g rest : List ℕ) → IsBlanks g → Stops is_in_word rest → Sto
 gap_stops [] rest blank stops = stops
 gap_stops (b ∷ bs) rest blank stops = blank_no_word b (both (is_blank b) (list_all is_blank bs) blank).0
 
-long_gap_stops : (g rest : List ℕ) → IsGap g → Stops is_in_word (g ++ rest)
+pub long_gap_stops : (g rest : List ℕ) → IsGap g → Stops is_in_word (g ++ rest)
 long_gap_stops [] rest is = absurd (let h = is.some in omega arith)
 long_gap_stops (b ∷ bs) rest is = blank_no_word b (both (is_blank b) (list_all is_blank bs) is.blank).0
 
-next_front : (g w rest : List ℕ) → IsBlanks g → IsWord w → Stops is_in_word rest → next_word (g ++ (w ++ rest)) ≡ Some (w, rest)
+pub next_front : (g w rest : List ℕ) → IsBlanks g → IsWord w → Stops is_in_word rest → next_word (g ++ (w ++ rest)) ≡ Some (w, rest)
 next_front g w rest blank is stops = rw (blanks_front g (w ++ rest) blank (word_no_blank w rest is)) (word_front w rest is stops)
 
 -- ---- words that no rule reads
 
-abbrev IsUnread : Result Part VersionFault → Type 0
-IsUnread (Ok part) = ⊥
-IsUnread (Err fault) = Unit {0}
-
 -- a text that is read is none of them
-abbrev Differs : List ℕ → List ℕ → Type 0
+abbrev pub Differs : List ℕ → List ℕ → Type 0
 Differs w other = bytes_are_equal w other ≡ false
 
-differs : (w other : List ℕ) → (w ≡ other → ⊥) → Differs w other
+pub differs : (w other : List ℕ) → (w ≡ other → ⊥) → Differs w other
 differs w other apart = by (bytes_are_equal w other) refl
   where
     by : (t : Bool) → bytes_are_equal w other ≡ t → t ≡ false
     by false e = refl
     by true e = absurd (apart (same_bytes w other e))
 
-contradicts : (r : Result Part VersionFault) (part : Part) → IsUnread r → r ≡ Ok part → ⊥
+pub contradicts : (r : Result Part VersionFault) (part : Part) → IsUnread r → r ≡ Ok part → ⊥
 contradicts (Ok p) part unread e = unread
-contradicts (Err fault) part unread e = cc
+contradicts (Err fault) part unread e = absurd cc
 
 dash_alone : IsUnread (form_part (alone (codes "-")))
 unfolding word_part plain_part exact_part wildcard_of bare_word written_numbers_at normal_form unflagged_form numbered_form classical_of version_numbers_at numbered_branch_of number_at piece_at branch_part_at suffix_of suffix_at following_within dev_at_end
 dash_alone = tt
 
-as_alone : IsUnread (form_part (alone (codes "as")))
+pub as_alone : IsUnread (form_part (alone (codes "as")))
 unfolding word_part plain_part exact_part wildcard_of bare_word written_numbers_at normal_form unflagged_form numbered_form classical_of version_numbers_at numbered_branch_of number_at piece_at branch_part_at suffix_of suffix_at following_within dev_at_end
 as_alone = tt
 
@@ -120,7 +117,7 @@ dash_range : (w : List ℕ) → IsUnread (form_part (range (codes "-") w))
 unfolding range_part bare_word classical_form classical_of version_numbers_at number_at
 dash_range w = tt
 
-as_range : (w : List ℕ) → IsUnread (form_part (range (codes "as") w))
+pub as_range : (w : List ℕ) → IsUnread (form_part (range (codes "as") w))
 unfolding range_part bare_word classical_form classical_of version_numbers_at number_at
 as_range w = tt
 
@@ -219,14 +216,14 @@ part_ok part rest = Ok (part, rest)
 from_form : (at : ℕ) (joint : Joint) (w rest tail : List ℕ) (form : Form) (part : Part) → Differs w (codes "as") → form_at w rest ≡ (form, tail) → form_part form ≡ Ok part → part_from at joint w rest ≡ Ok (part, tail)
 from_form at joint w rest tail form part apart e means = rw (no_alias joint w rest apart, e, means) refl
 
-dash_word : IsWord (codes "-")
+pub dash_word : IsWord (codes "-")
 dash_word = record { some = omega arith; all = refl }
 
 compared_form : (symbol gap w tail : List ℕ) (operator : Operator) → operator_word symbol ≡ Some operator → IsGap gap → IsWord w → IsTail tail → is_dash w ≡ false → form_at symbol (gap ++ (w ++ tail)) ≡ (compared operator w, tail)
 unfolding form_at
 compared_form symbol gap w tail operator e g also end no_dash = rw (next_front gap w tail g.blank also end.stops, no_dash, e) refl
 
-range_form : (v before after w tail : List ℕ) → IsGap before → IsGap after → IsWord w → IsTail tail → form_at v (before ++ (codes "-" ++ (after ++ (w ++ tail)))) ≡ (range v w, tail)
+pub range_form : (v before after w tail : List ℕ) → IsGap before → IsGap after → IsWord w → IsTail tail → form_at v (before ++ (codes "-" ++ (after ++ (w ++ tail)))) ≡ (range v w, tail)
 unfolding form_at
 range_form v before after w tail g h also end =
     rw (next_front before (codes "-") (after ++ (w ++ tail)) g.blank dash_word (long_gap_stops after (w ++ tail) h), next_front after w tail h.blank also end.stops) refl
@@ -251,7 +248,7 @@ words_spelled at joint text tail form part (span {v} {before} {after} {w} is g h
     (differs v (codes "as") (λ same. contradicts (form_part (range (codes "as") w)) part (as_range w) (rw same at means)))
     (range_form v before after w tail g h also end) means)
 
-form_no_blank : (text tail : List ℕ) (form : Form) → IsFormOf text form → Stops is_blank (text ++ tail)
+pub form_no_blank : (text tail : List ℕ) (form : Form) → IsFormOf text form → Stops is_blank (text ++ tail)
 form_no_blank text tail form (word {w} is) = word_no_blank w tail is
 form_no_blank text tail form (comparison {symbol} {gap} {w} is e g also) = rw (append_assoc symbol (gap ++ w) tail) (word_no_blank symbol ((gap ++ w) ++ tail) is)
 form_no_blank text tail form (span {v} {before} {after} {w} is g h also) = rw (append_assoc v (before ++ (codes "-" ++ (after ++ w))) tail) (word_no_blank v ((before ++ (codes "-" ++ (after ++ w))) ++ tail) is)
@@ -259,7 +256,7 @@ form_no_blank text tail form (span {v} {before} {after} {w} is g h also) = rw (a
 no_dash_operator : (operator : Operator) → operator_word (codes "-") ≡ Some operator → ⊥
 no_dash_operator operator e = cc
 
-blank_no_bar : (byte : ℕ) → is_blank byte ≡ true → is_bar byte ≡ false
+pub blank_no_bar : (byte : ℕ) → is_blank byte ≡ true → is_bar byte ≡ false
 blank_no_bar byte e = by (is_bar byte) refl
   where
     by : (t : Bool) → is_bar byte ≡ t → t ≡ false
@@ -274,13 +271,13 @@ part_spelled whole joint before text tail form part blank is means end =
 
 -- ---- the first word of parts
 
-record First (rest : List ℕ) : Type 0 where
-  word : List ℕ
-  after : List ℕ
-  whole : rest ≡ word ++ after
-  is : IsWord word
-  stops : Stops is_in_word after
-  no_dash : is_dash word ≡ false
+pub record First (rest : List ℕ) : Type 0 where
+  pub word : List ℕ
+  pub after : List ℕ
+  pub whole : rest ≡ word ++ after
+  pub is : IsWord word
+  pub stops : Stops is_in_word after
+  pub no_dash : is_dash word ≡ false
 
 first_of_form : (text tail : List ℕ) (form : Form) (part : Part) → IsFormOf text form → form_part form ≡ Ok part → Stops is_in_word tail → First (text ++ tail)
 first_of_form text tail form part (word {w} is) means stops =
@@ -296,7 +293,7 @@ blanks_stop : (end : List ℕ) → IsBlanks end → Stops is_in_word end
 blanks_stop [] blank = tt
 blanks_stop (b ∷ bs) blank = blank_no_word b (both (is_blank b) (list_all is_blank bs) blank).0
 
-joint_stops : (between rest : List ℕ) (joint : Joint) → IsJoint between joint → Stops is_in_word (between ++ rest)
+pub joint_stops : (between rest : List ℕ) (joint : Joint) → IsJoint between joint → Stops is_in_word (between ++ rest)
 joint_stops between rest joint (blanks {gap} g) = long_gap_stops gap rest g
 joint_stops between rest joint (comma before after x y) = rw (append_assoc before (codes "," ++ after) rest) (gap_stops before ((codes "," ++ after) ++ rest) x refl)
 joint_stops between rest joint (bar before mark after x (inl m) y) = rw (m, append_assoc before (codes "|" ++ after) rest) (gap_stops before ((codes "|" ++ after) ++ rest) x refl)
@@ -312,19 +309,19 @@ first_of joint rest parts (more {next = next} {text = text} {between = between} 
 end_blank : (end : List ℕ) → IsBlanks end → without_blanks_before end ≡ []
 end_blank end blank = ap without_blanks_before (sym (append-nil end)) ∙ blanks_front end [] blank tt
 
-end_tail : (end : List ℕ) → IsBlanks end → IsTail end
+pub end_tail : (end : List ℕ) → IsBlanks end → IsTail end
 end_tail end blank = record { stops = blanks_stop end blank; next = inl (rw (end_blank end blank) refl) }
 
 end_joint : (end : List ℕ) → IsBlanks end → joint_at end ≡ None
 end_joint end blank = rw (end_blank end blank) refl
 
 -- what joins two parts, read behind the first: the joint, and the blanks before the second
-record Joined (between rest : List ℕ) (joint : Joint) : Type 0 where
-  left : List ℕ
-  blank : IsBlanks left
-  short : length left ≤ length between
-  reads : joint_at (between ++ rest) ≡ Some (joint, left ++ rest)
-  tail : IsTail (between ++ rest)
+pub record Joined (between rest : List ℕ) (joint : Joint) : Type 0 where
+  pub left : List ℕ
+  pub blank : IsBlanks left
+  pub short : length left ≤ length between
+  pub reads : joint_at (between ++ rest) ≡ Some (joint, left ++ rest)
+  pub tail : IsTail (between ++ rest)
 
 no_mark : (byte : ℕ) → is_in_word byte ≡ true → ((byte == 44) ≡ false) × (is_bar byte ≡ false)
 no_mark byte e = by (is_blank byte) (byte == 44) (is_bar byte) e
@@ -339,12 +336,12 @@ word_joint : (w rest : List ℕ) → IsWord w → joint_here (w ++ rest) ≡ Som
 word_joint [] rest is = absurd (let h = is.some in omega arith)
 word_joint (b ∷ bs) rest is = let h = no_mark b (both (is_in_word b) (list_all is_in_word bs) is.all).0 in rw (h.0, h.1) refl
 
-no_bar_front : (after w rest : List ℕ) → IsBlanks after → IsWord w → without_first is_bar (after ++ (w ++ rest)) ≡ after ++ (w ++ rest)
+pub no_bar_front : (after w rest : List ℕ) → IsBlanks after → IsWord w → without_first is_bar (after ++ (w ++ rest)) ≡ after ++ (w ++ rest)
 no_bar_front [] [] rest blank is = absurd (let h = is.some in omega arith)
 no_bar_front [] (b ∷ bs) rest blank is = let h = no_mark b (both (is_in_word b) (list_all is_in_word bs) is.all).0 in rw h.1 refl
 no_bar_front (c ∷ cs) w rest blank is = rw (blank_no_bar c (both (is_blank c) (list_all is_blank cs) blank).0) refl
 
-joined_reads : (between rest : List ℕ) (joint : Joint) → IsJoint between joint → First rest → Joined between rest joint
+pub joined_reads : (between rest : List ℕ) (joint : Joint) → IsJoint between joint → First rest → Joined between rest joint
 joined_reads between rest joint (blanks {gap} g) first =
     let front : without_blanks_before (gap ++ rest) ≡ rest = rw first.whole (blanks_front gap (first.word ++ first.after) g.blank (word_no_blank first.word first.after first.is)) in
     record {

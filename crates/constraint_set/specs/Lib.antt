@@ -7,3 +7,5 @@ pub mod Satisfaction
 pub mod Overlap
 pub mod Ends
 pub mod Grammar
+pub mod Points
+pub mod Faults

@@ -14,7 +14,7 @@ mod words;
 
 pub use constraint::{Comparison, Constraint, Flag, Operator};
 pub use fault::ConstraintFault;
-pub use laws::{constraint_texts, meeting};
+pub use laws::{common_points, constraint_texts, fault_places, meeting};
 pub use reading::read;
 
 #[cfg(test)]

@@ -2,8 +2,9 @@ use super::*;
 use crate::vectors::{ROWS, Row, VERSIONS};
 use path_name::Items;
 use std::alloc::{AllocError, Global};
+use std::cmp::Ordering;
 use std::test::*;
-use version_norm::{Grade, normalise, print};
+use version_norm::{Grade, Version, VersionFault, compare_numbered, normalise, print};
 
 fn operator_text(operator: Operator) -> &'static [u8] {
     match operator {
@@ -293,10 +294,107 @@ const ALIASES: [(&str, u64); 7] = [
     ("1.0 as as 2.0", 4),
 ];
 
+/// Texts that are no constraints.
+const REFUSED: [(&str, ConstraintFault); 3] = [
+    ("1.0 as 2.0", ConstraintFault::InlineAlias(4)),
+    ("", ConstraintFault::BadConstraint(0)),
+    ("1.0 ||", ConstraintFault::BadConstraint(6)),
+];
+
+/// Constraints, and whether they meet.
+const MET: [(&str, &str, bool); 5] = [
+    ("^1.0", "^2.0", false),
+    ("<=1.0.0", ">=1.0.0", true),
+    ("dev-main", "!=dev-main", false),
+    ("dev-main", "*", true),
+    ("1.0.0", "!=1.0.0", false),
+];
+
+/// Versions, and their normal texts.
+const NORMAL: [(&str, &str); 6] = [
+    ("v1.2", "1.2.0.0"),
+    ("1.0-b.2", "1.0.0.0-beta2"),
+    ("1.0.0-RC1-dev", "1.0.0.0-RC1-dev"),
+    ("2.0-stable", "2.0.0.0"),
+    ("1.0+abc", "1.0.0.0"),
+    ("master", "dev-master"),
+];
+
+/// Texts that are no versions.
+const NO_VERSIONS: [(&str, VersionFault); 3] = [
+    ("2010-01-02", VersionFault::DateVersion),
+    ("one", VersionFault::NotAVersion),
+    ("1.0.", VersionFault::NotAVersion),
+];
+
+/// From the lowest to the highest.
+const ASCENDING: [&str; 9] = [
+    "1.0.0.0-dev",
+    "1.0.0.0-alpha-dev",
+    "1.0.0.0-alpha",
+    "1.0.0.0-beta1-dev",
+    "1.0.0.0-beta1",
+    "1.0.0.0-beta1.2",
+    "1.0.0.0-RC",
+    "1.0.0.0",
+    "1.0.0.0-patch",
+];
+
+fn is_normal_text(alloc: Global, text: &str, wanted: &str) -> bool {
+    let Ok(version) = normalise(alloc, text.as_bytes()) else {
+        return false;
+    };
+    match print(alloc, &version) {
+        Ok(text) => text.as_slice() == wanted.as_bytes(),
+        Err(_) => false,
+    }
+}
+
+fn is_no_version(alloc: Global, text: &str, wanted: VersionFault) -> bool {
+    match normalise(alloc, text.as_bytes()) {
+        Ok(_) => false,
+        Err(fault) => fault == wanted,
+    }
+}
+
+fn order_of(alloc: Global, first: &str, second: &str) -> Option<Ordering> {
+    let first = normalise(alloc, first.as_bytes()).ok()?;
+    let second = normalise(alloc, second.as_bytes()).ok()?;
+    match (&first, &second) {
+        (Version::Numbered(first), Version::Numbered(second)) => {
+            Some(compare_numbered(first, second))
+        }
+        _ => None,
+    }
+}
+
 #[test]
 fn versions(rt: HostRuntime) {
     for (text, wanted) in READ {
         assert!(rt; is_read_as(rt.alloc(), text, wanted), "{text}");
+    }
+    for (text, wanted) in REFUSED {
+        assert!(rt; is_refused_as(rt.alloc(), text, wanted), "{text}");
+    }
+    for (first, second, met) in MET {
+        assert!(rt;
+            do_meet(rt.alloc(), first, second) == Some(met),
+            "{first} {second}"
+        );
+    }
+    for (text, wanted) in NORMAL {
+        assert!(rt; is_normal_text(rt.alloc(), text, wanted), "{text}");
+    }
+    for (text, wanted) in NO_VERSIONS {
+        assert!(rt; is_no_version(rt.alloc(), text, wanted), "{text}");
+    }
+    for (i, first) in ASCENDING.iter().enumerate() {
+        for (j, second) in ASCENDING.iter().enumerate() {
+            assert!(rt;
+                order_of(rt.alloc(), first, second) == Some(i.cmp(&j)),
+                "{first} {second}"
+            );
+        }
     }
 }
 
@@ -330,13 +428,13 @@ fn faults(rt: HostRuntime) {
     }
 }
 
-/// Constraints, and whether they meet.
+/// More constraints, and whether they meet.
 const MEETING: [(&str, &str, bool); 12] = [
-    ("^1.0", "^2.0", false),
-    ("<=1.0.0", ">=1.0.0", true),
-    ("dev-main", "!=dev-main", false),
-    ("dev-main", "*", true),
-    ("1.0.0", "!=1.0.0", false),
+    (">1.0", "<1.0-p-dev", true),
+    ("<0.0-dev", "<0.0-dev", true),
+    ("1.0 2.0", "*", false),
+    ("!=1.0 !=dev-main", "!=2.0", true),
+    (">=1.0 <=1.0 !=1.0.0.0-dev", "!=1.0", true),
     ("<=1.0.0", ">=1.0.0@stable", true),
     ("<1.0.0-p1", ">1.0.0-RC1", true),
     ("<=1.0.0", ">1.0.0", false),

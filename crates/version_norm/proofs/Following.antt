@@ -22,7 +22,7 @@ final_below : (dev : Bool) (n : ℕ) → element_cmp (final_element dev) (Number
 final_below true n = grind (arith, nat_tests)
 final_below false n = grind (arith, nat_tests)
 
-final_above : (dev : Bool) (n : ℕ) → element_cmp (Number n) (final_element dev) ≡ Greater
+pub final_above : (dev : Bool) (n : ℕ) → element_cmp (Number n) (final_element dev) ≡ Greater
 final_above true n = grind (arith, nat_tests)
 final_above false n = grind (arith, nat_tests)
 

@@ -1,6 +1,8 @@
 -- An optional byte at the front, and the first byte of texts in a row.
-use Rattle.std.proofs.Common.{◌≡◌, ℕ, Bool, true, false, List, [], ◌∷◌, ◌++◌, refl}
-use Rattle.version_norm.specs.Pieces.{without_first, begins_with_digit}
+use Rattle.std.proofs.Common.{◌≡◌, ℕ, Bool, true, false, List, [], ◌∷◌, ◌++◌, refl, arith}
+use Rattle.std.specs.Prelude.{codes, ◌||◌, ◌==◌}
+use Rattle.std.proofs.lemmas.Bool.Decides.{nat_tests}
+use Rattle.version_norm.specs.Pieces.{is_one_of, is_separator, is_dot_or_dash, is_any_v, is_small_v, without_first, begins_with_digit}
 use Rattle.version_norm.specs.Grammar.{IsOptional}
 
 -- the first byte passes
@@ -44,3 +46,32 @@ optional_takes p (b ∷ bs) = by (p b) refl
     by : (t : Bool) → p b ≡ t → TakesOptional p (b ∷ bs)
     by true e = record { mark = b ∷ []; parts = rw e refl; optional = e }
     by false e = record { mark = []; parts = rw e refl; optional = tt }
+
+-- ---- one of some bytes is cut
+
+same_cut : (p q : ℕ → Bool) (text : List ℕ) → ((b : ℕ) → p b ≡ q b) → without_first p text ≡ without_first q text
+same_cut p q [] same = refl
+same_cut p q (b ∷ bs) same = rw (same b) refl
+
+or_false : (a : Bool) → (a || false) ≡ a
+or_false true = refl
+or_false false = refl
+
+or_grouped : (a b c : Bool) → (a || (b || c)) ≡ ((a || b) || c)
+or_grouped true b c = refl
+or_grouped false b c = refl
+
+any_v : (b : ℕ) → is_one_of (codes "vV") b ≡ is_any_v b
+any_v b = grind (arith, nat_tests)
+
+pub separator_cut : (text : List ℕ) → without_first (is_one_of (codes "._-")) text ≡ without_first is_separator text
+separator_cut text = same_cut (is_one_of (codes "._-")) is_separator text (λ b. rw (or_false (b == 45)) (or_grouped (b == 46) (b == 95) (b == 45)))
+
+pub dot_or_dash_cut : (text : List ℕ) → without_first (is_one_of (codes ".-")) text ≡ without_first is_dot_or_dash text
+dot_or_dash_cut text = same_cut (is_one_of (codes ".-")) is_dot_or_dash text (λ b. rw (or_false (b == 45)) refl)
+
+pub any_v_cut : (text : List ℕ) → without_first (is_one_of (codes "vV")) text ≡ without_first is_any_v text
+any_v_cut text = same_cut (is_one_of (codes "vV")) is_any_v text any_v
+
+pub small_v_cut : (text : List ℕ) → without_first (is_one_of (codes "v")) text ≡ without_first is_small_v text
+small_v_cut text = same_cut (is_one_of (codes "v")) is_small_v text (λ b. or_false (b == 118))

@@ -1,11 +1,11 @@
 -- Letters in any case, and the words of a modifier.
-use Rattle.std.proofs.Common.{◌≡◌, ℕ, ◌≤◌, Bool, false, List, [], ◌∷◌, ◌++◌, Some, None, refl, arith, lit≤}
+use Rattle.std.proofs.Common.{◌≡◌, ℕ, ◌≤◌, Bool, false, List, [], ◌∷◌, ◌++◌, Option, Some, None, inl, inr, refl, arith, lit≤}
 use Rattle.std.specs.Prelude.{codes, ◌==◌}
 use Rattle.std.proofs.lemmas.Bool.Decides.{nat_tests}
 use Rattle.path_name.specs.Bytes.{is_digit, lower, lowered}
-use Rattle.version_norm.specs.declared.pieces.Word.{Word}
-use Rattle.version_norm.specs.declared.pieces.Word.TheVariants as words
-use Rattle.version_norm.specs.Pieces.{is_separator, is_dot_or_dash, spelling_of, all_words, after_word, first_word}
+use Rattle.version_norm.specs.declared.version.Stage.{Stage}
+use Rattle.version_norm.specs.Pieces.{is_separator, is_dot_or_dash, all_words, after_word, first_word}
+use Rattle.version_norm.specs.Grammar.{IsWordOf}
 use Rattle.version_norm.proofs.Words.{after_word-append}
 use Rattle.version_norm.proofs.Front.{first_passes}
 
@@ -54,16 +54,17 @@ pub record StartsWithLetter (xs : List ℕ) : Type 0 where
 letter_first : (l : ℕ) (ls xs : List ℕ) → lowered xs ≡ l ∷ ls → 97 ≤ l → l ≤ 122 → StartsWithLetter xs
 letter_first l ls xs e low high = let s = starts l ls xs e in record { byte = s.byte; rest = s.rest; is = s.is; letter = letter_is s.byte l s.low low high }
 
-pub word_first : (word : Word) (xs : List ℕ) → lowered xs ≡ spelling_of word → StartsWithLetter xs
-word_first words.Stable xs e = letter_first 115 (codes "table") xs e (lit≤ tt) (lit≤ tt)
-word_first words.Beta xs e = letter_first 98 (codes "eta") xs e (lit≤ tt) (lit≤ tt)
-word_first words.B xs e = letter_first 98 [] xs e (lit≤ tt) (lit≤ tt)
-word_first words.Rc xs e = letter_first 114 (codes "c") xs e (lit≤ tt) (lit≤ tt)
-word_first words.Alpha xs e = letter_first 97 (codes "lpha") xs e (lit≤ tt) (lit≤ tt)
-word_first words.A xs e = letter_first 97 [] xs e (lit≤ tt) (lit≤ tt)
-word_first words.Patch xs e = letter_first 112 (codes "atch") xs e (lit≤ tt) (lit≤ tt)
-word_first words.Pl xs e = letter_first 112 (codes "l") xs e (lit≤ tt) (lit≤ tt)
-word_first words.P xs e = letter_first 112 [] xs e (lit≤ tt) (lit≤ tt)
+pub word_first : (xs : List ℕ) (stage : Option Stage) → IsWordOf all_words xs stage → StartsWithLetter xs
+word_first xs stage (inl is) = letter_first 115 (codes "table") xs is.0 (lit≤ tt) (lit≤ tt)
+word_first xs stage (inr (inl is)) = letter_first 98 (codes "eta") xs is.0 (lit≤ tt) (lit≤ tt)
+word_first xs stage (inr (inr (inl is))) = letter_first 98 [] xs is.0 (lit≤ tt) (lit≤ tt)
+word_first xs stage (inr (inr (inr (inl is)))) = letter_first 114 (codes "c") xs is.0 (lit≤ tt) (lit≤ tt)
+word_first xs stage (inr (inr (inr (inr (inl is))))) = letter_first 97 (codes "lpha") xs is.0 (lit≤ tt) (lit≤ tt)
+word_first xs stage (inr (inr (inr (inr (inr (inl is)))))) = letter_first 97 [] xs is.0 (lit≤ tt) (lit≤ tt)
+word_first xs stage (inr (inr (inr (inr (inr (inr (inl is))))))) = letter_first 112 (codes "atch") xs is.0 (lit≤ tt) (lit≤ tt)
+word_first xs stage (inr (inr (inr (inr (inr (inr (inr (inl is)))))))) = letter_first 112 (codes "l") xs is.0 (lit≤ tt) (lit≤ tt)
+word_first xs stage (inr (inr (inr (inr (inr (inr (inr (inr (inl is))))))))) = letter_first 112 [] xs is.0 (lit≤ tt) (lit≤ tt)
+word_first xs stage (inr (inr (inr (inr (inr (inr (inr (inr (inr is))))))))) = absurd is
 
 pub dev_first : (xs : List ℕ) → lowered xs ≡ codes "dev" → StartsWithLetter xs
 dev_first xs e = letter_first 100 (codes "ev") xs e (lit≤ tt) (lit≤ tt)
@@ -79,34 +80,35 @@ after_word-differs letter letters [] e = refl
 after_word-differs letter letters (b ∷ bs) e = rw e refl
 
 -- a word is read as that word and no other
-pub first_word_again : (word : Word) (xs tail : List ℕ) → lowered xs ≡ spelling_of word → EndsWord tail → first_word all_words (xs ++ tail) ≡ Some (word, tail)
-first_word_again words.Stable xs tail e ends =
-    rw (after_word-append (codes "stable") xs tail e) refl
-first_word_again words.Beta xs tail e ends =
-    let s = starts 98 (codes "eta") xs e in
-    rw (s.is, s.low, after_word-append (codes "eta") s.rest tail s.others) refl
-first_word_again words.B xs tail e ends =
-    let s = starts 98 [] xs e in
-    rw (s.is, s.low, nothing_left s.rest s.others, after_word-differs 101 (codes "ta") tail ends.no_e) refl
-first_word_again words.Rc xs tail e ends =
-    let s = starts 114 (codes "c") xs e in
-    rw (s.is, s.low, after_word-append (codes "c") s.rest tail s.others) refl
-first_word_again words.Alpha xs tail e ends =
-    let s = starts 97 (codes "lpha") xs e in
-    rw (s.is, s.low, after_word-append (codes "lpha") s.rest tail s.others) refl
-first_word_again words.A xs tail e ends =
-    let s = starts 97 [] xs e in
-    rw (s.is, s.low, nothing_left s.rest s.others, after_word-differs 108 (codes "pha") tail ends.no_l) refl
-first_word_again words.Patch xs tail e ends =
-    let s = starts 112 (codes "atch") xs e in
-    rw (s.is, s.low, after_word-append (codes "atch") s.rest tail s.others) refl
-first_word_again words.Pl xs tail e ends =
-    let s = starts 112 (codes "l") xs e in
+pub first_word_again : (xs tail : List ℕ) (stage : Option Stage) → IsWordOf all_words xs stage → EndsWord tail → first_word all_words (xs ++ tail) ≡ Some (stage, tail)
+first_word_again xs tail stage (inl is) ends =
+    rw (after_word-append (codes "stable") xs tail is.0, is.1) refl
+first_word_again xs tail stage (inr (inl is)) ends =
+    let s = starts 98 (codes "eta") xs is.0 in
+    rw (s.is, s.low, after_word-append (codes "eta") s.rest tail s.others, is.1) refl
+first_word_again xs tail stage (inr (inr (inl is))) ends =
+    let s = starts 98 [] xs is.0 in
+    rw (s.is, s.low, nothing_left s.rest s.others, after_word-differs 101 (codes "ta") tail ends.no_e, is.1) refl
+first_word_again xs tail stage (inr (inr (inr (inl is)))) ends =
+    let s = starts 114 (codes "c") xs is.0 in
+    rw (s.is, s.low, after_word-append (codes "c") s.rest tail s.others, is.1) refl
+first_word_again xs tail stage (inr (inr (inr (inr (inl is))))) ends =
+    let s = starts 97 (codes "lpha") xs is.0 in
+    rw (s.is, s.low, after_word-append (codes "lpha") s.rest tail s.others, is.1) refl
+first_word_again xs tail stage (inr (inr (inr (inr (inr (inl is)))))) ends =
+    let s = starts 97 [] xs is.0 in
+    rw (s.is, s.low, nothing_left s.rest s.others, after_word-differs 108 (codes "pha") tail ends.no_l, is.1) refl
+first_word_again xs tail stage (inr (inr (inr (inr (inr (inr (inl is))))))) ends =
+    let s = starts 112 (codes "atch") xs is.0 in
+    rw (s.is, s.low, after_word-append (codes "atch") s.rest tail s.others, is.1) refl
+first_word_again xs tail stage (inr (inr (inr (inr (inr (inr (inr (inl is)))))))) ends =
+    let s = starts 112 (codes "l") xs is.0 in
     let t = starts 108 [] s.rest s.others in
-    rw (s.is, s.low, t.is, t.low, nothing_left t.rest t.others) refl
-first_word_again words.P xs tail e ends =
-    let s = starts 112 [] xs e in
-    rw (s.is, s.low, nothing_left s.rest s.others, after_word-differs 97 (codes "tch") tail ends.no_a, after_word-differs 108 [] tail ends.no_l) refl
+    rw (s.is, s.low, t.is, t.low, nothing_left t.rest t.others, is.1) refl
+first_word_again xs tail stage (inr (inr (inr (inr (inr (inr (inr (inr (inl is))))))))) ends =
+    let s = starts 112 [] xs is.0 in
+    rw (s.is, s.low, nothing_left s.rest s.others, after_word-differs 97 (codes "tch") tail ends.no_a, after_word-differs 108 [] tail ends.no_l, is.1) refl
+first_word_again xs tail stage (inr (inr (inr (inr (inr (inr (inr (inr (inr is))))))))) ends = absurd is
 
 -- no word begins as `dev` does
 pub first_word-dev : (xs : List ℕ) → lowered xs ≡ codes "dev" → first_word all_words xs ≡ None

@@ -13,3 +13,4 @@ pub mod Ranges
 pub mod Ordered
 pub mod Blanks
 pub mod SmallNumbers
+pub mod NextVersions

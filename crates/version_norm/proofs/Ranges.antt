@@ -10,7 +10,7 @@ use Rattle.version_norm.specs.declared.version.Numbers.{Numbers}
 use Rattle.version_norm.specs.declared.version.Numbered.{Numbered}
 use Rattle.version_norm.specs.declared.version.Version.{Version}
 use Rattle.version_norm.specs.declared.version.Version.TheVariants as versions
-use Rattle.version_norm.specs.Pieces.{Suffix, stage_of, after_word, anything}
+use Rattle.version_norm.specs.Pieces.{Suffix, after_word, anything}
 use Rattle.version_norm.specs.Versions.{staged, numbered, is_in_branch_name, branch_named, branch_of, with_branch_mark, without_build, classical_of, numbered_branch_of, fault_of, else_numbered_branch, else_numbered, numbered_form, unflagged_form}
 use Rattle.version_norm.specs.VersionOrder.{four_numbers}
 use Rattle.version_norm.specs.Grammar.{IsRow, IsPart, IsBranchPart, IsFollowing, IsModifier, four_of, IsClassical, IsNumberedBranch}
@@ -53,7 +53,7 @@ staged_normal numbers (Some stage) following dev small first all = record { numb
 
 numbered_normal : (numbers : Numbers) (suffix : Option Suffix) (dev : Bool) → AllSmall (four_numbers numbers) → numbers.major < 10 ^ 5 → IfSome suffix (λ s. AllSmall s.1) → IsNormal (numbered numbers suffix dev)
 numbered_normal numbers None dev small first all = record { numbers = small; following = tt; first = inl first }
-numbered_normal numbers (Some suffix) dev small first all = staged_normal numbers (stage_of suffix.0) suffix.1 dev small first all
+numbered_normal numbers (Some suffix) dev small first all = staged_normal numbers suffix.0 suffix.1 dev small first all
 
 pub classical_normal : (text : List ℕ) (v : Numbered) → IsClassical text v → IsNormal v
 classical_normal text v is =

@@ -10,15 +10,15 @@ use Rattle.path_name.specs.Decimals.{is_number}
 use Rattle.path_name.specs.Given.{◌>>=◌}
 use Rattle.version_norm.specs.declared.fault.VersionFault.{VersionFault}
 use Rattle.version_norm.specs.declared.fault.VersionFault.TheVariants.{NotAVersion}
-use Rattle.version_norm.specs.declared.pieces.Word.{Word}
+use Rattle.version_norm.specs.declared.version.Stage.{Stage}
 use Rattle.version_norm.specs.declared.version.Numbers.{Numbers}
 use Rattle.version_norm.specs.declared.version.Numbered.{Numbered}
-use Rattle.version_norm.specs.Pieces.{Reading, Suffix, is_separator, is_dot_or_dash, is_any_v, is_small_v, is_wildcard, without_first, begins_with_digit, number_at, part_at, branch_part_at, anything, spelling_of, all_words, after_word, word_or, first_word, following_within, following_at, suffix_of, suffix_at, is_dev, dev_at_end}
+use Rattle.version_norm.specs.Pieces.{Reading, Suffix, is_separator, is_dot_or_dash, is_any_v, is_small_v, is_wildcard, without_first, begins_with_digit, number_at, part_at, branch_part_at, anything, Word, all_words, after_word, word_or, first_word, following_within, following_at, suffix_of, suffix_at, is_dev, dev_at_end}
 use Rattle.version_norm.specs.Versions.{version_numbers_at, numbered, classical_of, numbered_branch_of}
-use Rattle.version_norm.specs.Grammar.{IsNumber, IsRow, IsPart, IsBranchPart, IsFollowing, IsModifier, IsDevMark, four_of, IsClassical, IsNumberedBranch}
+use Rattle.version_norm.specs.Grammar.{IsNumber, IsRow, IsPart, IsBranchPart, IsFollowing, IsWordOf, IsModifier, IsDevMark, four_of, IsClassical, IsNumberedBranch}
 use Rattle.version_norm.proofs.Digits.{bind_ok, both_true, guard_ok, TakesNumber, number_takes}
 use Rattle.version_norm.proofs.Front.{digit-front, digit-append, optional_takes}
-use Rattle.version_norm.proofs.Words.{TakesWord, after_word_takes}
+use Rattle.version_norm.proofs.Words.{after_word_takes}
 use Rattle.version_norm.proofs.Spelled.{part_dot, branch_part_dot}
 
 -- ---- plain facts
@@ -273,18 +273,24 @@ row_takes (suc most) text x e =
       | false ↦ λ h. no_row text x h
     ] e
 
-first_word_takes : (some : List Word) (text : List ℕ) (found : Word × List ℕ) → first_word some text ≡ Some found → TakesWord (spelling_of found.0) text found.1
+-- What was before it is one of the words, and stands for that.
+record TakesWordOf (some : List Word) (text : List ℕ) (found : Option Stage × List ℕ) : Type 0 where
+  front : List ℕ
+  parts : text ≡ front ++ found.1
+  word : IsWordOf some front found.0
+
+first_word_takes : (some : List Word) (text : List ℕ) (found : Option Stage × List ℕ) → first_word some text ≡ Some found → TakesWordOf some text found
 first_word_takes [] text found e = absurd cc
 first_word_takes (word ∷ others) text found e =
-    elim (after_word (spelling_of word) text) as (λ o. after_word (spelling_of word) text ≡ o → word_or word o (first_word others text) ≡ Some found → TakesWord (spelling_of found.0) text found.1) [
-      | None ↦ λ is h. first_word_takes others text found h
+    elim (after_word word.0 text) as (λ o. after_word word.0 text ≡ o → word_or word.1 o (first_word others text) ≡ Some found → TakesWordOf (word ∷ others) text found) [
+      | None ↦ λ is h. let more = first_word_takes others text found h in record { front = more.front; parts = more.parts; word = inr more.word }
       | Some rest ↦ λ is h.
-          let made : Word × List ℕ = (word, rest) in
-          let same : made ≡ found = same_found made found h in
-          subst (λ (y : Word × List ℕ). TakesWord (spelling_of y.0) text y.1) same (after_word_takes (spelling_of word) text rest is)
+          let made : Option Stage × List ℕ = (word.1, rest) in
+          let took = after_word_takes word.0 text rest is in
+          subst (λ (y : Option Stage × List ℕ). TakesWordOf (word ∷ others) text y) (same_found made found h) (record { front = took.front; parts = took.parts; word = inl (took.spelled, refl) })
     ] refl e
   where
-    same_found : (x y : Word × List ℕ) → ◌≡◌ {A = Option (Word × List ℕ)} (Some x) (Some y) → x ≡ y
+    same_found : (x y : Option Stage × List ℕ) → ◌≡◌ {A = Option (Option Stage × List ℕ)} (Some x) (Some y) → x ≡ y
     same_found x y h = cc
 
 -- What a reading of a modifier took.
@@ -313,7 +319,7 @@ suffix_takes text x e =
           subst (λ (y : Option Suffix × List ℕ). TakesSuffix text y) (same_reading made x numbers.2) (record {
             modifier = cut.mark ++ (word.front ++ row.numbers);
             whole = cut.parts ∙ ap (λ (y : List ℕ). cut.mark ++ y) (word.parts ∙ ap (λ (y : List ℕ). word.front ++ y) row.whole ∙ sym (append_assoc word.front row.numbers numbers.0.1)) ∙ sym (append_assoc cut.mark (word.front ++ row.numbers) numbers.0.1);
-            modifier_is = (cut.mark, word.front, row.numbers, refl, cut.optional, word.spelled, row.numbers_are);
+            modifier_is = (cut.mark, word.front, row.numbers, refl, cut.optional, word.word, row.numbers_are);
           })
     ] refl e
 

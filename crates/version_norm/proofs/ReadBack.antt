@@ -8,12 +8,10 @@ use Rattle.std.proofs.lemmas.Bool.Decides.{nat_tests}
 use Rattle.std.proofs.lemmas.Fmt.{decimal_is_IsNumeral, length-decimal-le}
 use Rattle.std.proofs.lemmas.Str.Parse.{digit_from_value}
 use Rattle.std.proofs.lemmas.Int.Digits.{digits_value-lt}
-use Rattle.path_name.specs.Bytes.{is_digit, lowered}
+use Rattle.path_name.specs.Bytes.{is_digit}
 use Rattle.path_name.specs.Decimals.{is_number, decimal_text}
 use Rattle.version_norm.specs.declared.fault.VersionFault.{VersionFault}
 use Rattle.version_norm.specs.declared.fault.VersionFault.TheVariants.{NotAVersion}
-use Rattle.version_norm.specs.declared.pieces.Word.{Word}
-use Rattle.version_norm.specs.declared.pieces.Word.TheVariants as words
 use Rattle.version_norm.specs.declared.version.Stage.{Stage}
 use Rattle.version_norm.specs.declared.version.Stage.TheVariants as stages
 use Rattle.version_norm.specs.declared.version.Modifier.{Modifier}
@@ -21,9 +19,9 @@ use Rattle.version_norm.specs.declared.version.Numbers.{Numbers}
 use Rattle.version_norm.specs.declared.version.Numbered.{Numbered}
 use Rattle.version_norm.specs.declared.version.Version.{Version}
 use Rattle.version_norm.specs.declared.version.Version.TheVariants as versions
-use Rattle.version_norm.specs.Pieces.{Suffix, is_any_v, without_first, begins_with_digit, spelling_of, stage_of}
+use Rattle.version_norm.specs.Pieces.{Suffix, is_any_v, without_first, begins_with_digit, all_words}
 use Rattle.version_norm.specs.Versions.{version_numbers_at, numbered, classical_of, numbered_branch_of, numbered_form, unflagged_form, normal_form, joined, stage_text, numbers_text, modifier_text, dev_text, numbered_text}
-use Rattle.version_norm.specs.Grammar.{IsNumber, IsRow, IsPart, IsBranchPart, IsFollowing, IsModifier, IsDevMark, IsClassical, IsNumberedBranch}
+use Rattle.version_norm.specs.Grammar.{IsNumber, IsRow, IsPart, IsBranchPart, IsFollowing, IsWordOf, IsModifier, IsDevMark, IsClassical, IsNumberedBranch}
 use Rattle.version_norm.specs.VersionOrder.{four_numbers}
 use Rattle.version_norm.specs.Normal.{IsNormal}
 use Rattle.version_norm.proofs.Digits.{digit_range, digit_value_is, both_true, power_mono, number_too_long}
@@ -94,29 +92,15 @@ row_joined (n ∷ ns) all = (decimal_text n, flat_map dotted ns, refl, ([], deci
 
 -- ---- the modifier and the dev mark
 
-word_of : Stage → Word
-word_of stages.Alpha = words.Alpha
-word_of stages.Beta = words.Beta
-word_of stages.Rc = words.Rc
-word_of stages.Patch = words.Patch
-
-stage_of_word : (stage : Stage) → stage_of (word_of stage) ≡ Some stage
-unfolding word_of
-stage_of_word stages.Alpha = refl
-stage_of_word stages.Beta = refl
-stage_of_word stages.Rc = refl
-stage_of_word stages.Patch = refl
-
-stage_spelled : (stage : Stage) → lowered (stage_text stage) ≡ spelling_of (word_of stage)
-unfolding word_of
-stage_spelled stages.Alpha = refl
-stage_spelled stages.Beta = refl
-stage_spelled stages.Rc = refl
-stage_spelled stages.Patch = refl
+stage_spelled : (stage : Stage) → IsWordOf all_words (stage_text stage) (Some stage)
+stage_spelled stages.Alpha = inr (inr (inr (inr (inl (refl, refl)))))
+stage_spelled stages.Beta = inr (inl (refl, refl))
+stage_spelled stages.Rc = inr (inr (inr (inl (refl, refl))))
+stage_spelled stages.Patch = inr (inr (inr (inr (inr (inr (inl (refl, refl)))))))
 
 abbrev suffix_in : Option Modifier → Option Suffix
 suffix_in None = None
-suffix_in (Some modifier) = Some (word_of modifier.stage, modifier.numbers)
+suffix_in (Some modifier) = Some (Some modifier.stage, modifier.numbers)
 
 modifier_spelled : (modifier : Option Modifier) → IfSome modifier (λ m. AllByRecursion (λ n. n < 10 ^ 18) m.numbers) → IsModifier (modifier_text modifier) (suffix_in modifier)
 modifier_spelled None all = refl
@@ -128,7 +112,7 @@ dev_spelled false = refl
 
 version_again : (numbers : Numbers) (modifier : Option Modifier) (dev : Bool) → numbered numbers (suffix_in modifier) dev ≡ record { numbers = numbers; modifier = modifier; dev = dev }
 version_again numbers None dev = refl
-version_again numbers (Some m) dev = rw (stage_of_word m.stage) refl
+version_again numbers (Some m) dev = refl
 
 -- ---- the whole
 

@@ -251,12 +251,12 @@ unfolding suffix_at suffix_of
 suffix_again modifier rest None is tail =
     rw is (record { no_digit = tail.no_digit; no_part_here = no_part rest tail.no_digit_behind; reads = rw tail.no_word refl })
 suffix_again modifier rest (Some suffix) is tail =
-    let start = word_first suffix.0 is.1 is.5 in
+    let start = word_first is.1 suffix.0 is.5 in
     let regrouped : modifier ++ rest ≡ is.0 ++ (is.1 ++ (is.2 ++ rest)) = rw (is.3, append_assoc, append_assoc) refl in
     let first : first_passes is_separator (is.1 ++ (is.2 ++ rest)) ≡ false = rw start.is start.letter.no_separator in
     let cut : without_first is_separator (is.0 ++ (is.1 ++ (is.2 ++ rest))) ≡ is.1 ++ (is.2 ++ rest) = without_optional is_separator is.0 (is.1 ++ (is.2 ++ rest)) is.4 first in
     let no_digit : begins_with_digit (is.1 ++ (is.2 ++ rest)) ≡ false = rw start.is start.letter.no_digit in
-    let word = first_word_again suffix.0 is.1 (is.2 ++ rest) is.5 (row_ends is.2 rest suffix.1 is.6 tail.ends_word) in
+    let word = first_word_again is.1 (is.2 ++ rest) suffix.0 is.5 (row_ends is.2 rest suffix.1 is.6 tail.ends_word) in
     let numbers = following_again is.2 rest suffix.1 is.6 tail.no_digit tail.no_number in
     rw regrouped (record {
       no_digit = separated is.0 is.1 (is.2 ++ rest) is.4 start;

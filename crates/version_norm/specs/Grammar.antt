@@ -3,9 +3,10 @@
 use Rattle.std.specs.Prelude.{◌≡◌, ℕ, ◌≤◌, List, [], ◌∷◌, ◌++◌, length, Bool, true, false, ◌⊎◌, Option, Some, None, codes, slice_index_or}
 use Rattle.path_name.specs.Bytes.{lowered}
 use Rattle.path_name.specs.Decimals.{is_number, number_of}
+use Rattle.version_norm.specs.declared.version.Stage.{Stage}
 use Rattle.version_norm.specs.declared.version.Numbers.{Numbers}
 use Rattle.version_norm.specs.declared.version.Numbered.{Numbered}
-use Rattle.version_norm.specs.Pieces.{Suffix, is_separator, is_dot_or_dash, is_any_v, is_small_v, is_wildcard, begins_with_digit, anything, spelling_of}
+use Rattle.version_norm.specs.Pieces.{Suffix, is_separator, is_dot_or_dash, is_any_v, is_small_v, is_wildcard, begins_with_digit, anything, Word, all_words}
 use Rattle.version_norm.specs.Versions.{numbered}
 
 -- nothing, or one byte that passes
@@ -40,11 +41,16 @@ IsBranchPart text n = IsPart text n ⊎ IsWildPart text n
 abbrev pub IsFollowing : List ℕ → ℕ → Type 0
 IsFollowing text n = (separator : List ℕ) × (digits : List ℕ) × (text ≡ separator ++ digits) × IsOptional is_dot_or_dash separator × IsNumber 18 digits n
 
+-- the word is one of these in any case, and stands for that
+abbrev pub IsWordOf : List Word → List ℕ → Option Stage → Type 0
+IsWordOf [] word stage = ⊥
+IsWordOf (one ∷ others) word stage = ((lowered word ≡ one.0) × (stage ≡ one.1)) ⊎ IsWordOf others word stage
+
 -- an optional modifier: an optional `.`, `_` or `-`, a word in any case, and any count of numbers
 abbrev pub IsModifier : List ℕ → Option Suffix → Type 0
 IsModifier text None = text ≡ []
 IsModifier text (Some suffix) = (separator : List ℕ) × (word : List ℕ) × (numbers : List ℕ) × (text ≡ separator ++ (word ++ numbers)) × IsOptional is_separator separator
-    × (lowered word ≡ spelling_of suffix.0) × IsRow IsFollowing numbers suffix.1
+    × IsWordOf all_words word suffix.0 × IsRow IsFollowing numbers suffix.1
 
 -- an optional dev mark: an optional `.`, `_` or `-` and `dev` in any case
 abbrev pub IsDevMark : List ℕ → Bool → Type 0

@@ -6,3 +6,4 @@ pub mod VersionOrder
 pub mod Normal
 pub mod Rules
 pub mod Written
+pub mod NextVersions

@@ -1,7 +1,7 @@
 -- The pieces of a version, read from the left: each reading gives what was read and what follows it, or
 -- NotAVersion where the piece isn't there. What they mean as a grammar stands in Grammar.
 use Rattle.std.specs.Prelude.{ℕ, zero, suc, List, [], ◌∷◌, length, take, drop, Bool, true, false, ◌&&◌, ◌||◌, ◌==◌, nat_lt, nat_le, if◌then◌else◌, Option, Some, None, Result, Ok, Err, codes}
-use Rattle.std.specs.List.{prefix_len}
+use Rattle.std.specs.List.{prefix_len, list_any}
 use Rattle.path_name.specs.Given.{◌>>=◌}
 use Rattle.path_name.specs.Bytes.{is_digit, lower, lowered}
 use Rattle.path_name.specs.Orders.{bytes_are_equal}
@@ -10,12 +10,13 @@ use Rattle.version_norm.specs.declared.fault.VersionFault.{VersionFault}
 use Rattle.version_norm.specs.declared.fault.VersionFault.TheVariants.{NotAVersion}
 use Rattle.version_norm.specs.declared.version.Stage.{Stage}
 use Rattle.version_norm.specs.declared.version.Stage.TheVariants as stages
-use Rattle.version_norm.specs.declared.pieces.Word.{Word}
-use Rattle.version_norm.specs.declared.pieces.Word.TheVariants as words
 
 -- what was read, and what follows it
 abbrev pub Reading : Type 0 → Type 0
 Reading X = Result (X × List ℕ) VersionFault
+
+abbrev pub is_one_of : List ℕ → ℕ → Bool
+is_one_of bytes byte = list_any (λ one. byte == one) bytes
 
 -- `.`, `_` or `-`
 abbrev pub is_separator : ℕ → Bool
@@ -69,33 +70,16 @@ unfoldable pub branch_part_at : List ℕ → Reading (Option ℕ)
 branch_part_at (dot ∷ byte ∷ rest) = if dot == 46 && is_wildcard byte then Ok (Some anything, rest) else part_at (dot ∷ byte ∷ rest)
 branch_part_at text = part_at text
 
--- how each word of a modifier is spelled, in small letters
-abbrev pub spelling_of : Word → List ℕ
-spelling_of words.Stable = codes "stable"
-spelling_of words.Beta = codes "beta"
-spelling_of words.B = codes "b"
-spelling_of words.Rc = codes "rc"
-spelling_of words.Alpha = codes "alpha"
-spelling_of words.A = codes "a"
-spelling_of words.Patch = codes "patch"
-spelling_of words.Pl = codes "pl"
-spelling_of words.P = codes "p"
+-- a word in small letters, and what it stands for
+abbrev pub Word : Type 0
+Word = List ℕ × Option Stage
 
--- what it stands for: b is beta, a is alpha, p and pl are patch, and stable is no stage
-abbrev pub stage_of : Word → Option Stage
-stage_of words.Stable = None
-stage_of words.Beta = Some stages.Beta
-stage_of words.B = Some stages.Beta
-stage_of words.Rc = Some stages.Rc
-stage_of words.Alpha = Some stages.Alpha
-stage_of words.A = Some stages.Alpha
-stage_of words.Patch = Some stages.Patch
-stage_of words.Pl = Some stages.Patch
-stage_of words.P = Some stages.Patch
-
--- the words, a longer one before those that it begins with
+-- the words of a modifier, a longer one before those that it begins with; stable is no stage
 abbrev pub all_words : List Word
-all_words = words.Stable ∷ words.Beta ∷ words.B ∷ words.Rc ∷ words.Alpha ∷ words.A ∷ words.Patch ∷ words.Pl ∷ words.P ∷ []
+all_words =
+    (codes "stable", None) ∷ (codes "beta", Some stages.Beta) ∷ (codes "b", Some stages.Beta)
+    ∷ (codes "rc", Some stages.Rc) ∷ (codes "alpha", Some stages.Alpha) ∷ (codes "a", Some stages.Alpha)
+    ∷ (codes "patch", Some stages.Patch) ∷ (codes "pl", Some stages.Patch) ∷ (codes "p", Some stages.Patch) ∷ []
 
 -- what follows a word of small letters, where the text begins with it in any case
 abbrev pub after_word : List ℕ → List ℕ → Option (List ℕ)
@@ -103,14 +87,14 @@ after_word [] text = Some text
 after_word (letter ∷ letters) [] = None
 after_word (letter ∷ letters) (byte ∷ bytes) = if lower byte == letter then after_word letters bytes else None
 
-abbrev pub word_or : Word → Option (List ℕ) → Option (Word × List ℕ) → Option (Word × List ℕ)
-word_or word None next = next
-word_or word (Some rest) next = Some (word, rest)
+abbrev pub word_or : Option Stage → Option (List ℕ) → Option (Option Stage × List ℕ) → Option (Option Stage × List ℕ)
+word_or stage None next = next
+word_or stage (Some rest) next = Some (stage, rest)
 
--- the first of the words that the text begins with, and what follows it
-abbrev pub first_word : List Word → List ℕ → Option (Word × List ℕ)
+-- what the first of the words that the text begins with stands for, and what follows it
+abbrev pub first_word : List Word → List ℕ → Option (Option Stage × List ℕ)
 first_word [] text = None
-first_word (word ∷ others) text = word_or word (after_word (spelling_of word) text) (first_word others text)
+first_word (word ∷ others) text = word_or word.1 (after_word word.0 text) (first_word others text)
 
 -- numbers, each with an optional `.` or `-` before it; at most `most` of them
 unfoldable pub following_within : ℕ → List ℕ → Reading (List ℕ)
@@ -126,11 +110,11 @@ following_within (suc most) text = if begins_with_digit (without_first is_dot_or
 abbrev pub following_at : List ℕ → Reading (List ℕ)
 following_at text = following_within (length text) text
 
--- a modifier as it is read: its word and its numbers
+-- a modifier as it is read: what its word stands for, and its numbers
 abbrev pub Suffix : Type 0
-Suffix = Word × List ℕ
+Suffix = Option Stage × List ℕ
 
-unfoldable pub suffix_of : Option (Word × List ℕ) → List ℕ → Reading (Option Suffix)
+unfoldable pub suffix_of : Option (Option Stage × List ℕ) → List ℕ → Reading (Option Suffix)
 suffix_of None text = Ok (None, text)
 suffix_of (Some found) text = do
   numbers ← following_at found.1

@@ -15,7 +15,7 @@ use Rattle.version_norm.specs.declared.version.Numbers.{Numbers}
 use Rattle.version_norm.specs.declared.version.Numbered.{Numbered}
 use Rattle.version_norm.specs.declared.version.Version.{Version}
 use Rattle.version_norm.specs.declared.version.Version.TheVariants as versions
-use Rattle.version_norm.specs.Pieces.{Reading, Suffix, is_any_v, is_small_v, is_dot_or_dash, without_first, number_at, part_at, branch_part_at, anything, stage_of, after_word, suffix_at, is_dev, dev_at_end}
+use Rattle.version_norm.specs.Pieces.{Reading, Suffix, is_any_v, is_small_v, is_dot_or_dash, without_first, number_at, part_at, branch_part_at, anything, after_word, suffix_at, is_dev, dev_at_end}
 
 -- ---- before the rules: blanks at both ends are cut
 
@@ -93,7 +93,7 @@ staged numbers (Some stage) following dev = record { numbers = numbers; modifier
 
 abbrev pub numbered : Numbers → Option Suffix → Bool → Numbered
 numbered numbers None dev = record { numbers = numbers; modifier = None; dev = dev }
-numbered numbers (Some suffix) dev = staged numbers (stage_of suffix.0) suffix.1 dev
+numbered numbers (Some suffix) dev = staged numbers suffix.0 suffix.1 dev
 
 unfoldable pub classical_of : List ℕ → Result Numbered VersionFault
 classical_of text = do

@@ -13,7 +13,10 @@ mod version;
 mod written;
 
 pub use fault::VersionFault;
-pub use laws::{classical_versions, cuts, normal_texts, numbered_branches, rules, version_order};
+pub use laws::{
+    classical_versions, cuts, grade_order, next_versions, normal_texts, numbered_branches, rules,
+    version_order, version_texts,
+};
 pub use normal_form::{before_flag, normalise};
 pub use normal_text::print;
 pub use order::{compare, compare_numbered};

@@ -7,36 +7,21 @@ ghost use Rattle.path_name.specs.Given.{Gives, GivesValue};
 ghost use Rattle.path_name.specs.Bytes.{is_blank};
 ghost use Rattle.version_norm.specs.declared.fault.VersionFault.TheVariants.{OutOfMemory};
 ghost use Rattle.version_norm.specs.Normal.{IsNormalVersion};
-ghost use Rattle.version_norm.specs.Versions.{without_blanks_before, without_blanks_after, trimmed, is_flag, without_flag, is_main_line, with_branch_mark, is_in_branch_name, branch_of, is_plus, is_blank_or_comma, without_build, is_date_mark, is_in_date, ends_in_date_mark, is_date, fault_of, numbered_form, unflagged_form, normal_form};
+ghost use Rattle.version_norm.specs.Versions.{without_blanks_after, trimmed, is_flag, without_flag, is_main_line, with_branch_mark, is_in_branch_name, branch_of, is_plus, is_blank_or_comma, without_build, is_date_mark, is_in_date, ends_in_date_mark, is_date, fault_of, numbered_form, unflagged_form, normal_form};
 
 use crate::fault::VersionFault;
 use crate::numbered::{classical, numbered_branch};
-use crate::pieces::{after_letters, after_small_v, digit_count};
+use crate::pieces::{after_letters, after_one_of, digit_count};
 use crate::version::Version;
-use path_name::Name;
+use path_name::{Name, after_blanks, is_blank, is_digit};
 use std::alloc::{AllocError, Global};
 
-fn is_blank_byte(byte: u8) -> bool
-    ensures { result ≡ is_blank byte }
-{
-    matches!(byte, b' ' | b'\t' | b'\n' | b'\r')
-}
-
-pub fn after_blanks(text: &[u8]) -> &[u8]
-    ensures { result.now ≡ without_blanks_before text.now }
-{
-    let mut start = 0;
-    while start < text.len() && is_blank_byte(text[start]) {
-        start += 1;
-    }
-    &text[start..]
-}
-
+/// The text without the blanks at its end: spaces, tabs, LF and CR.
 pub fn before_blanks(text: &[u8]) -> &[u8]
     ensures { result.now ≡ without_blanks_after text.now }
 {
     let mut end = text.len();
-    while end > 0 && is_blank_byte(text[end - 1]) {
+    while end > 0 && is_blank(text[end - 1]) {
         end -= 1;
     }
     &text[..end]
@@ -75,7 +60,7 @@ fn is_main_line_name(text: &[u8]) -> bool
 fn is_branch_byte(byte: u8) -> bool
     ensures { result ≡ is_in_branch_name byte }
 {
-    !(is_blank_byte(byte) || byte == b',' || byte == b'|')
+    !(is_blank(byte) || byte == b',' || byte == b'|')
 }
 
 fn is_branch_rest(name: &[u8]) -> bool
@@ -111,8 +96,7 @@ fn branch(alloc: Global, rest: &[u8]) -> Result<Version, AllocError>
 fn has_blank_or_comma(text: &[u8]) -> bool
     ensures { result ≡ list_any is_blank_or_comma text.now }
 {
-    text.iter()
-        .any(|byte| is_blank_byte(*byte) || *byte == b',')
+    text.iter().any(|byte| is_blank(*byte) || *byte == b',')
 }
 
 /// Where the first `+` stands; the length where there is none.
@@ -145,7 +129,7 @@ fn is_date_text(date: &[u8]) -> bool
     ensures { result ≡ list_all is_in_date date.now }
 {
     date.iter()
-        .all(|byte| byte.is_ascii_digit() || is_date_mark_byte(*byte))
+        .all(|byte| is_digit(*byte) || is_date_mark_byte(*byte))
 }
 
 fn ends_in_mark(date: &[u8]) -> bool
@@ -158,10 +142,11 @@ fn ends_in_mark(date: &[u8]) -> bool
 }
 
 /// Whether the text is a date: after an optional `v` four digits, and only digits and marks, with no mark last.
+#[tactic(auto, using(crate::proofs::Front::small_v_cut))]
 fn is_date_version(text: &[u8]) -> bool
     ensures { result ≡ is_date text.now }
 {
-    let date = after_small_v(text);
+    let date = after_one_of(text, b"v");
     4 <= digit_count(date) && is_date_text(date) && !ends_in_mark(date)
 }
 

@@ -3,14 +3,14 @@
 ghost use Rattle.std.specs.Prelude.{◌≡◌};
 ghost use Rattle.path_name.specs.Given.{Gives, GivesValue};
 ghost use Rattle.version_norm.specs.declared.fault.VersionFault.TheVariants.{OutOfMemory};
-ghost use Rattle.version_norm.specs.Versions.{classical_numbers_at, branch_numbers_at, numbered, staged, classical_of, numbered_branch_of};
+ghost use Rattle.version_norm.specs.Versions.{classical_numbers_at, branch_numbers_at, numbered, classical_of, numbered_branch_of};
 
 use crate::fault::VersionFault;
 use crate::pieces::{
-    ANYTHING, MOST_DIGITS, Word, after_any_v, after_dot_or_dash, after_small_v, is_dev_word,
-    read_branch_part, read_dev_mark, read_number, read_part, read_suffix,
+    ANYTHING, MOST_DIGITS, after_one_of, is_dev_word, read_branch_part, read_dev_mark, read_number,
+    read_part, read_suffix,
 };
-use crate::version::{Modifier, Numbered, Numbers};
+use crate::version::{Modifier, Numbered, Numbers, Stage};
 use path_name::Items;
 use std::alloc::Global;
 
@@ -53,8 +53,12 @@ fn branch_numbers(text: &[u8]) -> Result<(Numbers, &[u8]), VersionFault>
     Ok((numbers, rest))
 }
 
-/// The version of these pieces. With the word `stable`, its numbers and the dev mark are dropped.
-fn numbered_version(numbers: Numbers, suffix: Option<(Word, Items<u64>)>, dev: bool) -> Numbered
+/// The version of these pieces. With the word `stable`, which is no stage, its numbers and the dev mark are dropped.
+fn numbered_version(
+    numbers: Numbers,
+    suffix: Option<(Option<Stage>, Items<u64>)>,
+    dev: bool,
+) -> Numbered
     ensures { result ≡ numbered numbers suffix dev }
 {
     match suffix {
@@ -63,20 +67,12 @@ fn numbered_version(numbers: Numbers, suffix: Option<(Word, Items<u64>)>, dev: b
             modifier: None,
             dev,
         },
-        Some((word, following)) => staged_version(numbers, word, following, dev),
-    }
-}
-
-fn staged_version(numbers: Numbers, word: Word, following: Items<u64>, dev: bool) -> Numbered
-    ensures { result ≡ numbered numbers (Some (word, following)) dev }
-{
-    match word.stage() {
-        None => Numbered {
+        Some((None, _)) => Numbered {
             numbers,
             modifier: None,
             dev: false,
         },
-        Some(stage) => Numbered {
+        Some((Some(stage), following)) => Numbered {
             numbers,
             modifier: Some(Modifier {
                 stage,
@@ -88,23 +84,23 @@ fn staged_version(numbers: Numbers, word: Word, following: Items<u64>, dev: bool
 }
 
 /// A classical version, as `v1.0.0-beta2-dev`.
-#[tactic(auto, unfolding(crate::specs::Versions::classical_of))]
+#[tactic(auto, using(crate::proofs::Front::any_v_cut), unfolding(crate::specs::Versions::classical_of))]
 pub fn classical(alloc: Global, text: &[u8]) -> Result<Numbered, VersionFault>
     ensures { GivesValue OutOfMemory (classical_of text.now) result }
 {
-    let (numbers, rest) = classical_numbers(after_any_v(text))?;
+    let (numbers, rest) = classical_numbers(after_one_of(text, b"vV"))?;
     let (suffix, rest) = read_suffix(alloc, rest)?;
     let dev = read_dev_mark(rest)?;
     Ok(numbered_version(numbers, suffix, dev))
 }
 
 /// A numbered branch, as `1.x-dev`.
-#[tactic(auto, unfolding(crate::specs::Versions::numbered_branch_of))]
+#[tactic(auto, using(crate::proofs::Front::small_v_cut, crate::proofs::Front::dot_or_dash_cut), unfolding(crate::specs::Versions::numbered_branch_of))]
 pub fn numbered_branch(text: &[u8]) -> Result<Numbered, VersionFault>
     ensures { GivesValue OutOfMemory (numbered_branch_of text.now) result }
 {
-    let (numbers, rest) = branch_numbers(after_small_v(text))?;
-    if !is_dev_word(after_dot_or_dash(rest)) {
+    let (numbers, rest) = branch_numbers(after_one_of(text, b"v"))?;
+    if !is_dev_word(after_one_of(rest, b".-")) {
         return Err(VersionFault::NotAVersion);
     }
     Ok(Numbered {

@@ -1,17 +1,17 @@
 //! The pieces that versions are made of, read from the left of a text.
 
-ghost use Rattle.std.specs.Prelude.{◌≡◌, ◌<◌, ◌≤◌, length, IfOk, true};
+ghost use Rattle.std.specs.Prelude.{◌≡◌, ◌<◌, ◌≤◌, length, map, All, IfOk, true};
 ghost use Rattle.std.specs.List.{prefix_len, list_all};
 ghost use Rattle.std.specs.Option.{option_copied, option_map};
 ghost use Rattle.path_name.specs.Given.{Gives};
 ghost use Rattle.path_name.specs.Bytes.{is_digit, lowered};
 ghost use Rattle.path_name.specs.Decimals.{number_of};
 ghost use Rattle.version_norm.specs.declared.fault.VersionFault.TheVariants.{OutOfMemory};
-ghost use Rattle.version_norm.specs.Pieces.{is_separator, is_dot_or_dash, is_any_v, is_small_v, is_wildcard, without_first, begins_with_digit, number_at, part_at, branch_part_at, spelling_of, stage_of, all_words, after_word, first_word, following_at, suffix_at, is_dev, dev_at_end};
+ghost use Rattle.version_norm.specs.Pieces.{is_one_of, without_first, begins_with_digit, number_at, part_at, branch_part_at, all_words, after_word, first_word, following_at, suffix_at, is_dev, dev_at_end};
 
 use crate::fault::VersionFault;
 use crate::version::Stage;
-use path_name::Items;
+use path_name::{Items, is_digit};
 use std::alloc::Global;
 
 /// The most digits of a number.
@@ -20,115 +20,32 @@ pub const MOST_DIGITS: usize = 18;
 /// The number of an x part.
 pub const ANYTHING: u64 = 9_999_999;
 
-/// A word that a modifier may begin with, in any case.
-#[derive(Clone, Copy, Debug, PartialEq, Eq)]
-pub enum Word {
-    /// `stable`: no stage of its own.
-    Stable,
-    /// `beta`.
-    Beta,
-    /// `b`, for beta.
-    B,
-    /// `RC`.
-    Rc,
-    /// `alpha`.
-    Alpha,
-    /// `a`, for alpha.
-    A,
-    /// `patch`.
-    Patch,
-    /// `pl`, for patch.
-    Pl,
-    /// `p`, for patch.
-    P,
-}
-
-/// The words, a longer one before those that it begins with.
-const WORDS: [Word; 9] = [
-    Word::Stable,
-    Word::Beta,
-    Word::B,
-    Word::Rc,
-    Word::Alpha,
-    Word::A,
-    Word::Patch,
-    Word::Pl,
-    Word::P,
+/// The words that a modifier may begin with, in small letters, and what they stand for: `stable` is no stage. A
+/// longer word stands before those that it begins with.
+const WORDS: [(&str, Option<Stage>); 9] = [
+    ("stable", None),
+    ("beta", Some(Stage::Beta)),
+    ("b", Some(Stage::Beta)),
+    ("rc", Some(Stage::Rc)),
+    ("alpha", Some(Stage::Alpha)),
+    ("a", Some(Stage::Alpha)),
+    ("patch", Some(Stage::Patch)),
+    ("pl", Some(Stage::Patch)),
+    ("p", Some(Stage::Patch)),
 ];
 
-impl Word {
-    fn spelling(self) -> &'static [u8]
-        ensures { result.now ≡ spelling_of self }
-    {
-        match self {
-            Word::Stable => b"stable",
-            Word::Beta => b"beta",
-            Word::B => b"b",
-            Word::Rc => b"rc",
-            Word::Alpha => b"alpha",
-            Word::A => b"a",
-            Word::Patch => b"patch",
-            Word::Pl => b"pl",
-            Word::P => b"p",
-        }
-    }
-
-    /// What the word stands for; nothing for `stable`.
-    pub fn stage(self) -> Option<Stage>
-        ensures { result ≡ stage_of self }
-    {
-        match self {
-            Word::Stable => None,
-            Word::Beta | Word::B => Some(Stage::Beta),
-            Word::Rc => Some(Stage::Rc),
-            Word::Alpha | Word::A => Some(Stage::Alpha),
-            Word::Patch | Word::Pl | Word::P => Some(Stage::Patch),
-        }
-    }
-}
-
-fn is_digit_byte(byte: u8) -> bool
-    ensures { result ≡ is_digit byte }
+fn is_one_byte_of(bytes: &[u8], byte: u8) -> bool
+    ensures { result ≡ is_one_of bytes.now byte }
 {
-    byte.is_ascii_digit()
+    bytes.iter().any(|one| byte == *one)
 }
 
-/// The text without a first `.`, `_` or `-`.
-pub fn after_separator(text: &[u8]) -> &[u8]
-    ensures { result.now ≡ without_first is_separator text.now }
+/// The text without its first byte, where that is one of these.
+pub fn after_one_of<'a>(text: &'a [u8], bytes: &[u8]) -> &'a [u8]
+    ensures { result.now ≡ without_first (is_one_of bytes.now) text.now }
 {
     match text {
-        [b'.' | b'_' | b'-', rest @ ..] => rest,
-        _ => text,
-    }
-}
-
-/// The text without a first `.` or `-`.
-pub fn after_dot_or_dash(text: &[u8]) -> &[u8]
-    ensures { result.now ≡ without_first is_dot_or_dash text.now }
-{
-    match text {
-        [b'.' | b'-', rest @ ..] => rest,
-        _ => text,
-    }
-}
-
-/// The text without a first `v` or `V`.
-pub fn after_any_v(text: &[u8]) -> &[u8]
-    ensures { result.now ≡ without_first is_any_v text.now }
-{
-    match text {
-        [b'v' | b'V', rest @ ..] => rest,
-        _ => text,
-    }
-}
-
-/// The text without a first `v`.
-pub fn after_small_v(text: &[u8]) -> &[u8]
-    ensures { result.now ≡ without_first is_small_v text.now }
-{
-    match text {
-        [b'v', rest @ ..] => rest,
+        [first, rest @ ..] if is_one_byte_of(bytes, *first) => rest,
         _ => text,
     }
 }
@@ -137,7 +54,7 @@ fn begins_with_digit_byte(text: &[u8]) -> bool
     ensures { result ≡ begins_with_digit text.now }
 {
     match text {
-        [first, ..] => is_digit_byte(*first),
+        [first, ..] => is_digit(*first),
         [] => false,
     }
 }
@@ -147,7 +64,7 @@ pub fn digit_count(text: &[u8]) -> usize
     ensures count { result ≡ prefix_len is_digit text.now }
     ensures within { result ≤ length text.now }
 {
-    text.iter().take_while(|byte| is_digit_byte(**byte)).count()
+    text.iter().take_while(|byte| is_digit(**byte)).count()
 }
 
 fn value_of(digits: &[u8]) -> u64
@@ -218,52 +135,57 @@ pub fn after_letters<'a>(text: &'a [u8], word: &[u8]) -> Option<&'a [u8]>
     }
 }
 
-/// The first of these words that the text begins with, and what follows it.
-fn first_word_of<'a>(words: &[Word], text: &'a [u8]) -> Option<(Word, &'a [u8])>
-    ensures { option_map (λ x. (x.0, x.1.now)) result ≡ first_word words.now text.now }
+/// What the first of these words that the text begins with stands for, and what follows it.
+fn first_word_of<'a>(
+    words: &[(&str, Option<Stage>)],
+    text: &'a [u8],
+) -> Option<(Option<Stage>, &'a [u8])>
+    requires { All (λ word. lowered word.0.now ≡ word.0.now) words.now }
+    ensures { option_map (λ x. (x.0, x.1.now)) result ≡ first_word (map (λ word. (word.0.now, word.1)) words.now) text.now }
 {
-    for word in words {
-        if let Some(rest) = after_letters(text, word.spelling()) {
-            return Some((*word, rest));
+    for (spelling, stage) in words {
+        if let Some(rest) = after_letters(text, spelling.as_bytes()) {
+            return Some((*stage, rest));
         }
     }
     None
 }
 
-/// The word that the text begins with, and what follows it.
-pub fn word_at(text: &[u8]) -> Option<(Word, &[u8])>
+/// What the word that the text begins with stands for, and what follows it.
+fn word_at(text: &[u8]) -> Option<(Option<Stage>, &[u8])>
     ensures { option_map (λ x. (x.0, x.1.now)) result ≡ first_word all_words text.now }
 {
     first_word_of(&WORDS, text)
 }
 
 /// Any count of numbers, each with an optional `.` or `-` before it.
+#[tactic(auto, using(crate::proofs::Front::dot_or_dash_cut))]
 pub fn read_following(alloc: Global, text: &[u8]) -> Result<(Items<u64>, &[u8]), VersionFault>
     ensures { Gives (λ x. (x.0, x.1.now)) OutOfMemory (following_at text.now) result }
 {
     let mut numbers = Vec::new(alloc);
     let mut rest = text;
-    while begins_with_digit_byte(after_dot_or_dash(rest)) {
-        let (number, after) = read_number(after_dot_or_dash(rest), MOST_DIGITS)?;
+    while begins_with_digit_byte(after_one_of(rest, b".-")) {
+        let (number, after) = read_number(after_one_of(rest, b".-"), MOST_DIGITS)?;
         numbers.push(number)?;
         rest = after;
     }
     Ok((Items::of(numbers), rest))
 }
 
-/// An optional modifier, as its word and its numbers: an optional separator, the word and the numbers.
-#[tactic(auto, unfolding(crate::specs::Pieces::suffix_at, crate::specs::Pieces::suffix_of))]
+/// An optional modifier: an optional separator, a word, of which its stage is given, and the numbers.
+#[tactic(auto, using(crate::proofs::Front::separator_cut), unfolding(crate::specs::Pieces::suffix_at, crate::specs::Pieces::suffix_of))]
 pub fn read_suffix(
     alloc: Global,
     text: &[u8],
-) -> Result<(Option<(Word, Items<u64>)>, &[u8]), VersionFault>
+) -> Result<(Option<(Option<Stage>, Items<u64>)>, &[u8]), VersionFault>
     ensures { Gives (λ x. (x.0, x.1.now)) OutOfMemory (suffix_at text.now) result }
 {
-    let Some((word, rest)) = word_at(after_separator(text)) else {
+    let Some((stage, rest)) = word_at(after_one_of(text, b"._-")) else {
         return Ok((None, text));
     };
     let (numbers, rest) = read_following(alloc, rest)?;
-    Ok((Some((word, numbers)), rest))
+    Ok((Some((stage, numbers)), rest))
 }
 
 /// Whether the text is `dev`, in any case.
@@ -274,14 +196,14 @@ pub fn is_dev_word(text: &[u8]) -> bool
 }
 
 /// Whether a dev mark is all that is left; no reading where anything else is.
-#[tactic(auto, unfolding(crate::specs::Pieces::dev_at_end))]
+#[tactic(auto, using(crate::proofs::Front::separator_cut), unfolding(crate::specs::Pieces::dev_at_end))]
 pub fn read_dev_mark(text: &[u8]) -> Result<bool, VersionFault>
     ensures { Gives (λ x. x) OutOfMemory (dev_at_end text.now) result }
 {
     if text.is_empty() {
         return Ok(false);
     }
-    if is_dev_word(after_separator(text)) {
+    if is_dev_word(after_one_of(text, b"._-")) {
         Ok(true)
     } else {
         Err(VersionFault::NotAVersion)

@@ -61,7 +61,7 @@ pub enum Version {
     Numbered(Numbered),
 }
 
-/// How stable a version is, from the most stable on.
+/// How stable a version is, from the most stable on: the order is that of the ranks (`grade_order`).
 #[derive(Clone, Copy, Debug, PartialEq, Eq, PartialOrd, Ord)]
 pub enum Grade {
     /// A release, or a fix after one.

@@ -10,10 +10,11 @@ ghost use Rattle.version_norm.specs.VersionOrder.{four_numbers};
 ghost use Rattle.version_norm.specs.Written.{last_written, bare_text, written_numbers_at, classical_form};
 
 use crate::fault::VersionFault;
-use crate::normal_form::{after_blanks, before_blanks, before_build, before_flag};
+use crate::normal_form::{before_blanks, before_build, before_flag};
 use crate::numbered::{MOST_CLASSICAL_DIGITS, classical};
-use crate::pieces::{after_any_v, read_number, read_part};
+use crate::pieces::{after_one_of, read_number, read_part};
 use crate::version::{Numbered, Numbers};
+use path_name::after_blanks;
 use std::alloc::Global;
 
 /// Which of a version's four numbers.
@@ -102,7 +103,7 @@ fn bare(text: &[u8]) -> &[u8]
 /// The classical version that a text has, which is also its normal form, with the last number that it writes.
 /// Refuses `NotAVersion` where the text has none, also where it has another version, as `dev-main` and
 /// `1.x-dev`; and `OutOfMemory` where there was no memory for the answer.
-#[tactic(auto, unfolding(crate::specs::Written::classical_form))]
+#[tactic(auto, using(crate::proofs::Front::any_v_cut), unfolding(crate::specs::Written::classical_form))]
 pub fn classical_version(alloc: Global, text: &[u8]) -> Result<Classical, VersionFault>
     ensures exact { GivesValue OutOfMemory (classical_form text.now) result }
     // It is one whose normal text is read back.
@@ -110,7 +111,7 @@ pub fn classical_version(alloc: Global, text: &[u8]) -> Result<Classical, Versio
 {
     let text = bare(text);
     let numbered = classical(alloc, text)?;
-    let (written, _) = read_written_numbers(after_any_v(text), MOST_CLASSICAL_DIGITS)?;
+    let (written, _) = read_written_numbers(after_one_of(text, b"vV"), MOST_CLASSICAL_DIGITS)?;
     Ok(Classical {
         numbered,
         last: written.last,
