@@ -1,7 +1,5 @@
 -- Names that differ, and members that are put one after the other.
 use Rattle.std.proofs.Common.{◌≡◌, ℕ, ◌+◌, ◌<◌, ◌≤◌, Bool, true, false, cond, ◌||◌, List, [], ◌∷◌, ◌++◌, length, map, take, get_or, refl, sym, ap, ◌∙◌}
-use Rattle.std.specs.Borrow.{Bor}
-use Rattle.std.specs.Prelude.{not}
 use Rattle.std.specs.List.{list_any, concat}
 use Rattle.std.proofs.lemmas.List.Folds.{concat-append}
 use Rattle.std.proofs.lemmas.List.{append-nil, map_push, take_more, take_all}
@@ -23,7 +21,7 @@ neither : (b c : Bool) → b || c ≡ false → (b ≡ false) × (c ≡ false)
 neither true c h = absurd cc
 neither false c h = (refl, h)
 
-put_new : (done : List (List ℕ × JsonTree)) (name : List ℕ) (v : JsonTree) → list_any (bytes_are_equal name) (names_of done) ≡ false → put done name v ≡ done ++ (name, v) ∷ []
+pub put_new : (done : List (List ℕ × JsonTree)) (name : List ℕ) (v : JsonTree) → list_any (bytes_are_equal name) (names_of done) ≡ false → put done name v ≡ done ++ (name, v) ∷ []
 put_new [] name v h = refl
 put_new (m ∷ done) name v h =
     let both = neither (bytes_are_equal name m.0) (list_any (bytes_are_equal name) (names_of done)) h in
@@ -44,33 +42,6 @@ next_differs members i x within is so_far new =
 pub all_differ : (members : List (List ℕ × Doc)) (i : ℕ) → length members ≤ i → put_all [] (map pair_of (take i members)) ≡ map pair_of (take i members) → put_all [] (map pair_of members) ≡ map pair_of members
 all_differ members i past so_far = ap (λ (ms : List (List ℕ × Doc)). put_all [] (map pair_of ms)) (sym (take_all i members past)) ∙ so_far ∙ ap (map pair_of) (take_all i members past)
 
--- ---- the table of names
-
-any_same : (eq : Bor (List ℕ) → Bor (List ℕ) → Bool) → ((x y : Bor (List ℕ)) → eq x y ≡ bytes_are_equal x.now y.now) → (value : Bor (List ℕ)) (keys : List (Bor (List ℕ))) → list_any (eq value) keys ≡ list_any (bytes_are_equal value.now) (map (λ name. name.now) keys)
-any_same eq same value [] = refl
-any_same eq same value (key ∷ keys) =
-    ap (λ (b : Bool). b || list_any (eq value) keys) (same value key) ∙ ap (λ (b : Bool). bytes_are_equal value.now key.now || b) (any_same eq same value keys)
-
-was_absent : (b : Bool) → true ≡ not b → b ≡ false
-was_absent true h = absurd cc
-was_absent false h = refl
-
--- a name that was added was new
-pub was_new : (eq : Bor (List ℕ) → Bor (List ℕ) → Bool) → ((x y : Bor (List ℕ)) → eq x y ≡ bytes_are_equal x.now y.now) → (keys : List (Bor (List ℕ))) (value : Bor (List ℕ)) (name : List ℕ) (names : List (List ℕ)) (added : Bool)
-    → map (λ k. k.now) keys ≡ names → value.now ≡ name → added ≡ not (list_any (eq value) keys) → added ≡ true → list_any (bytes_are_equal name) names ≡ false
-was_new eq same keys value name names added so_far is answer said =
-    ap (λ (ns : List (List ℕ)). list_any (bytes_are_equal name) ns) (sym so_far) ∙ ap (λ (n : List ℕ). list_any (bytes_are_equal n) (map (λ k. k.now) keys)) (sym is)
-    ∙ sym (any_same eq same value keys) ∙ was_absent (list_any (eq value) keys) (sym said ∙ answer)
-
-pub seen_more : (eq : Bor (List ℕ) → Bor (List ℕ) → Bool) (keys new : List (Bor (List ℕ))) (value : Bor (List ℕ)) (added : Bool) (members : List (List ℕ × Doc)) (i : ℕ) (x : List ℕ × Doc) → i < length members → x ≡ get_or members i x
-    → map (λ k. k.now) keys ≡ names_of (map pair_of (take i members)) → value.now ≡ x.0 → added ≡ not (list_any (eq value) keys) → added ≡ true → new ≡ cond (list_any (eq value) keys) keys (keys ++ value ∷ [])
-    → map (λ k. k.now) new ≡ names_of (map pair_of (take (i + 1) members))
-seen_more eq keys new value added members i x within at so_far is answer said has =
-    let absent = was_absent (list_any (eq value) keys) (sym said ∙ answer) in
-    ap (map (λ k. k.now)) (has ∙ ap (λ (b : Bool). cond b keys (keys ++ value ∷ [])) absent) ∙ map_push (λ k. k.now) keys value
-    ∙ ap (λ (ns : List (List ℕ)). ns ++ value.now ∷ []) so_far ∙ ap (λ (n : List ℕ). names_of (map pair_of (take i members)) ++ n ∷ []) is
-    ∙ sym (map_push (λ m. m.0) (map pair_of (take i members)) (pair_of x)) ∙ sym (ap names_of (one_more members i x within at))
-
 -- ---- all names in a row
 
 pub names_more : (members : List (List ℕ × Doc)) (i : ℕ) (x : List ℕ × Doc) → i < length members → x ≡ get_or members i x → concat (names_of (map pair_of (take (i + 1) members))) ≡ concat (names_of (map pair_of (take i members))) ++ x.0
@@ -78,3 +49,11 @@ names_more members i x within is =
     ap (λ (ms : List (List ℕ × JsonTree)). concat (names_of ms)) (one_more members i x within is)
     ∙ ap concat (map_push (λ m. m.0) (map pair_of (take i members)) (pair_of x)) ∙ concat-append (names_of (map pair_of (take i members))) (x.0 ∷ [])
     ∙ ap (λ (t : List ℕ). concat (names_of (map pair_of (take i members))) ++ t) (append-nil x.0)
+
+-- ---- the number of each name
+
+pub numbers_more : (number : List ℕ → ℕ) (members : List (List ℕ × Doc)) (i : ℕ) (x : List ℕ × Doc) → i < length members → x ≡ get_or members i x
+    → map number (names_of (map pair_of (take (i + 1) members))) ≡ map number (names_of (map pair_of (take i members))) ++ number x.0 ∷ []
+numbers_more number members i x within is =
+    ap (λ (ms : List (List ℕ × JsonTree)). map number (names_of ms)) (one_more members i x within is)
+    ∙ ap (map number) (map_push (λ m. m.0) (map pair_of (take i members)) (pair_of x)) ∙ map_push number (names_of (map pair_of (take i members))) x.0

@@ -14,6 +14,8 @@ pub mod Reader
 pub mod Escapes
 pub mod Strings
 pub mod Words
+pub mod Lanes
+pub mod Runs
 pub mod Frames
 pub mod Enters
 pub mod Places
@@ -29,4 +31,5 @@ pub mod ReadBack
 pub mod Printable
 pub mod Inside
 pub mod Joined
+pub mod Numbered
 pub mod OneFault

@@ -52,6 +52,10 @@ pub record Hex (text rest : List ℕ) (least end value : ℕ) : Type 0 where
 abbrev pub HexSteps : List ℕ → ℕ → ℕ → Result (ℕ × Bor (List ℕ)) stops.Stop → Type 0
 HexSteps text least end result = MatchResult result (λ x. Hex text x.1.now least end x.0) (λ e. (e ≡ stop.Syntax (length text)) × NoHex least end text)
 
+-- the next byte and what follows it, or an early end
+abbrev pub NextByte : List ℕ → Result (ℕ × Bor (List ℕ)) stops.Stop → Type 0
+NextByte text result = MatchResult result (λ x. text ≡ x.0 ∷ x.1.now) (λ e. (e ≡ stop.Syntax 0) × (text ≡ []))
+
 -- the first byte is another
 abbrev pub NoByte : ℕ → List ℕ → Type 0
 NoByte wanted [] = Unit {0}

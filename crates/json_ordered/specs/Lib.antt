@@ -7,6 +7,7 @@ pub mod JsonStarts
 pub mod JsonSteps
 pub mod JsonFrames
 pub mod JsonParts
+pub mod JsonScans
 pub mod JsonNames
 pub mod JsonEquality
 pub mod JsonPlaces

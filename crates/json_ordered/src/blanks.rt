@@ -1,8 +1,9 @@
 //! What every part of the reader needs: blanks, single bytes and words.
 
 ghost use Rattle.std.specs.Prelude.{◌≡◌, ◌≤◌, length, IfOk};
-ghost use Rattle.json_ordered.specs.JsonSteps.{Skips, ByteSteps, WordSteps};
+ghost use Rattle.json_ordered.specs.JsonSteps.{Skips, NextByte, ByteSteps, WordSteps};
 
+use crate::scan::{Blank, run_len};
 use crate::stop::Stop;
 use path_name::is_blank;
 
@@ -10,24 +11,30 @@ use path_name::is_blank;
 pub(crate) fn after_blanks(text: &[u8]) -> &[u8]
     ensures { Skips text.now result.now }
 {
-    let mut len = 0;
-    while len < text.len() {
-        if !is_blank(text[len]) {
-            return text.split_at(len).1;
+    if let Some((byte, _rest)) = text.split_first() {
+        if !is_blank(*byte) {
+            return text;
         }
-        len += 1;
     }
-    text.split_at(len).1
+    text.split_at(run_len::<Blank>(text)).1
+}
+
+/// The next byte, and what follows it: the one place where a text may end too early.
+pub(crate) fn next_byte(text: &[u8]) -> Result<(u8, &[u8]), Stop>
+    ensures { NextByte text.now result }
+{
+    match text.split_first() {
+        Some((byte, rest)) => Ok((*byte, rest)),
+        None => Err(Stop::Syntax(0)),
+    }
 }
 
 /// What follows this byte.
 pub(crate) fn after_byte(text: &[u8], wanted: u8) -> Result<&[u8], Stop>
     ensures { ByteSteps text.now wanted result }
 {
-    let Some((byte, rest)) = text.split_first() else {
-        return Err(Stop::Syntax(0));
-    };
-    if *byte != wanted {
+    let (byte, rest) = next_byte(text)?;
+    if byte != wanted {
         return Err(Stop::Syntax(text.len()));
     }
     Ok(rest)

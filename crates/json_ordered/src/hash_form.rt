@@ -14,17 +14,11 @@ ghost use Rattle.json_ordered.specs.JsonPrinting.{is_kept, values_text, members_
 
 use crate::doc::Doc;
 use crate::escape::{add_comma, add_control, add_unit};
+use crate::scan::{Kept, run_len};
 use itoa::Buffer;
 use path_name::{Name, Text};
 use std::alloc::{AllocError, Global};
 use std::str;
-
-// Whether the compact form has a byte as it is: ASCII from space on, apart from `"`, `\` and `/`.
-fn is_kept(byte: u8) -> bool
-    ensures { result ≡ is_kept byte }
-{
-    0x20 <= byte && byte < 0x80 && !(byte == b'"' || byte == b'\\' || byte == b'/')
-}
 
 // The longest front of bytes that are kept, and what follows it.
 fn kept_run(text: &str) -> (&str, &str)
@@ -32,15 +26,7 @@ fn kept_run(text: &str) -> (&str, &str)
     ensures kept { list_all is_kept result.0.now ≡ true }
     ensures utf8 { IsUtf8 result.1.now }
 {
-    let bytes = text.as_bytes();
-    let mut len = 0;
-    while len < bytes.len() {
-        if !is_kept(bytes[len]) {
-            return text.split_at(len);
-        }
-        len += 1;
-    }
-    text.split_at(len)
+    text.split_at(run_len::<Kept>(text.as_bytes()))
 }
 
 // Adds the UTF-16 of a character.

@@ -17,8 +17,8 @@ use crate::doc::Doc;
 use crate::fault::JsonFault;
 use crate::stop::Stop;
 use crate::values::document;
+use simdutf8::compat::from_utf8;
 use std::alloc::Global;
-use std::str;
 
 // A fault's place, counted from the front.
 fn placed(stop: Stop, len: usize) -> JsonFault
@@ -56,7 +56,7 @@ pub fn read(alloc: Global, text: &[u8]) -> Result<Doc, JsonFault>
     // The value or the fault.
     ensures exact { Gives tree_of JsonFault.OutOfMemory (json_of text.now) result }
 {
-    match str::from_utf8(text) {
+    match from_utf8(text) {
         Err(fault) => Err(JsonFault::NotUtf8(fault.valid_up_to() as u64)),
         Ok(_) => match document(alloc, text) {
             Ok(doc) => Ok(doc),

@@ -12,6 +12,8 @@ mod json;
 mod members;
 mod number;
 mod pretty;
+mod room;
+mod scan;
 mod seed;
 mod start;
 mod step;

@@ -2,18 +2,21 @@
 
 ghost use Rattle.std.specs.Prelude.{◌≡◌, true, [], map, IfOk, IfErr};
 ghost use Rattle.std.specs.List.{list_any};
+ghost use Rattle.std.specs.List.Sorted.{IsStrictlyIncreasing};
 ghost use Rattle.path_name.specs.Orders.{bytes_are_equal};
 ghost use Rattle.json_ordered.specs.JsonTree.{put, put_all};
 ghost use Rattle.json_ordered.specs.JsonNames.{names_of};
 ghost use Rattle.json_ordered.specs.Docs.{tree_of, pair_of};
 ghost use Rattle.json_ordered.specs.JsonFrames.{entry_of};
+ghost use Rattle.json_ordered.specs.JsonSeeds.{number_of};
 
 use crate::doc::Doc;
 use crate::seed::Seeded;
 use crate::stop::Stop;
-use indexmap::{IndexMap, IndexSet};
+use indexmap::IndexMap;
 use path_name::Name;
 use std::alloc::{AllocError, Global};
+use std::hash::{FoldHasher, Hasher};
 
 // Up to how many names are compared each with each.
 const FEW: usize = 16;
@@ -43,28 +46,55 @@ fn few_differ(members: &[(Name, Doc)]) -> bool
     true
 }
 
-// Whether no name comes twice, by a table.
-fn many_differ(alloc: Global, members: &[(Name, Doc)]) -> Result<bool, AllocError>
-    ensures { IfOk result (λ differ. differ ≡ true → put_all [] (map pair_of members.now) ≡ map pair_of members.now) }
+// A number that a name makes, by std's quick hash.
+fn number_of(name: &[u8]) -> u64
+    ensures { result ≡ number_of name.now }
 {
-    let seed = Seeded::by_names(members);
-    let mut seen = IndexSet::with_capacity_and_hasher(alloc, members.len(), seed)?;
-    for member in members {
-        if !seen.insert(member.0.as_slice())? {
-            return Ok(false);
-        }
-    }
-    Ok(true)
+    let mut hasher = FoldHasher::default();
+    hasher.write(name);
+    hasher.finish()
 }
 
-// Whether no name comes twice.
+// The numbers of all names.
+fn numbers_of(alloc: Global, members: &[(Name, Doc)]) -> Result<Vec<u64>, AllocError>
+    ensures { IfOk result (λ numbers. numbers.items ≡ map number_of (names_of (map pair_of members.now))) }
+{
+    let mut numbers = Vec::with_capacity(alloc, members.len())?;
+    for member in members {
+        numbers.push(number_of(member.0.as_slice()))?;
+    }
+    Ok(numbers)
+}
+
+// Whether each number is above the one before it.
+fn rise(numbers: &[u64]) -> bool
+    ensures { result ≡ true → IsStrictlyIncreasing numbers.now }
+{
+    for i in 1..numbers.len() {
+        if numbers[i] <= numbers[i - 1] {
+            return false;
+        }
+    }
+    true
+}
+
+// Whether all names make different numbers, so that none comes twice.
+fn numbers_differ(alloc: Global, members: &[(Name, Doc)]) -> Result<bool, AllocError>
+    ensures { IfOk result (λ differ. differ ≡ true → put_all [] (map pair_of members.now) ≡ map pair_of members.now) }
+{
+    let mut numbers = numbers_of(alloc, members)?;
+    numbers.sort_unstable();
+    Ok(rise(numbers.as_slice()))
+}
+
+// Whether it is seen at once that no name comes twice. Many names that make one number may still differ.
 fn differ(alloc: Global, members: &[(Name, Doc)]) -> Result<bool, AllocError>
     ensures { IfOk result (λ differ. differ ≡ true → put_all [] (map pair_of members.now) ≡ map pair_of members.now) }
 {
     if members.len() <= FEW {
         return Ok(few_differ(members));
     }
-    many_differ(alloc, members)
+    numbers_differ(alloc, members)
 }
 
 // The members of a map, in order.

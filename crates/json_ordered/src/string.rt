@@ -7,16 +7,10 @@ ghost use Rattle.std.specs.Char.Utf16.{is_high_surrogate};
 ghost use Rattle.json_ordered.specs.Json.{is_plain, escaped};
 ghost use Rattle.json_ordered.specs.JsonSteps.{StopsPlain, HexSteps, UnitSteps, LowSteps, EscapeSteps, StringSteps};
 
-use crate::blanks::after_byte;
+use crate::blanks::{after_byte, next_byte};
+use crate::scan::{Plain, run_len};
 use crate::stop::Stop;
 use std::alloc::Global;
-
-// Whether a byte of a string stands for itself.
-fn is_plain(byte: u8) -> bool
-    ensures { result ≡ is_plain byte }
-{
-    byte >= 0x20 && byte != b'"' && byte != b'\\'
-}
 
 /// The longest front of bytes that stand for themselves, and what follows it.
 pub(crate) fn plain_run(text: &[u8]) -> (&[u8], &[u8])
@@ -24,14 +18,7 @@ pub(crate) fn plain_run(text: &[u8]) -> (&[u8], &[u8])
     ensures plain { list_all is_plain result.0.now ≡ true }
     ensures stops { StopsPlain result.1.now }
 {
-    let mut len = 0;
-    while len < text.len() {
-        if !is_plain(text[len]) {
-            return text.split_at(len);
-        }
-        len += 1;
-    }
-    text.split_at(len)
+    text.split_at(run_len::<Plain>(text))
 }
 
 // What `\` and this letter stand for.
@@ -54,10 +41,8 @@ fn hex(text: &[u8], least: u32, end: u32) -> Result<(u32, &[u8]), Stop>
     requires { end ≤ 16 }
     ensures { HexSteps text.now least end result }
 {
-    let Some((byte, rest)) = text.split_first() else {
-        return Err(Stop::Syntax(0));
-    };
-    match char::from(*byte).to_digit(16) {
+    let (byte, rest) = next_byte(text)?;
+    match char::from(byte).to_digit(16) {
         None => Err(Stop::Syntax(text.len())),
         Some(value) => {
             if value < least || end <= value {
@@ -138,13 +123,11 @@ fn escape<'a>(out: &mut Vec<u8>, text: &'a [u8]) -> Result<&'a [u8], Stop>
     ensures steps { EscapeSteps text.now out.old.items out.new.items result }
     ensures shorter { IfOk result (λ rest. length rest.now < length text.now) }
 {
-    let Some((letter, rest)) = text.split_first() else {
-        return Err(Stop::Syntax(0));
-    };
-    if *letter == b'u' {
+    let (letter, rest) = next_byte(text)?;
+    if letter == b'u' {
         return unit(out, rest);
     }
-    match escaped(*letter) {
+    match escaped(letter) {
         None => Err(Stop::Syntax(text.len())),
         Some(byte) => {
             out.push(byte)?;
@@ -153,8 +136,9 @@ fn escape<'a>(out: &mut Vec<u8>, text: &'a [u8]) -> Result<&'a [u8], Stop>
     }
 }
 
-/// The bytes of a string that has begun, and what follows its end.
-pub(crate) fn string(alloc: Global, text: &[u8]) -> Result<(Vec<u8>, &[u8]), Stop>
+// The bytes of a string that has begun, run by run, and what follows its end.
+#[inline(never)]
+fn string_by_runs(alloc: Global, text: &[u8]) -> Result<(Vec<u8>, &[u8]), Stop>
     ensures steps { StringSteps text.now result }
     ensures shorter { IfOk result (λ x. length x.1.now ≤ length text.now) }
 {
@@ -163,15 +147,28 @@ pub(crate) fn string(alloc: Global, text: &[u8]) -> Result<(Vec<u8>, &[u8]), Sto
     loop {
         let (run, end) = plain_run(rest);
         out.extend_from_slice(run)?;
-        let Some((byte, after)) = end.split_first() else {
-            return Err(Stop::Syntax(0));
-        };
-        if *byte == b'"' {
+        let (byte, after) = next_byte(end)?;
+        if byte == b'"' {
             return Ok((out, after));
         }
-        if *byte != b'\\' {
+        if byte != b'\\' {
             return Err(Stop::Syntax(end.len()));
         }
         rest = escape(&mut out, after)?;
     }
+}
+
+/// The bytes of a string that has begun, and what follows its end. Most have no escape, and are copied in
+/// one piece.
+pub(crate) fn string(alloc: Global, text: &[u8]) -> Result<(Vec<u8>, &[u8]), Stop>
+    ensures steps { StringSteps text.now result }
+    ensures shorter { IfOk result (λ x. length x.1.now ≤ length text.now) }
+{
+    let (run, end) = plain_run(text);
+    if let Some((byte, rest)) = end.split_first() {
+        if *byte == b'"' {
+            return Ok((Vec::from_slice(alloc, run)?, rest));
+        }
+    }
+    string_by_runs(alloc, text)
 }

@@ -1,4 +1,5 @@
 use super::*;
+use std::alloc::Global;
 use std::process::Abort;
 use std::test::*;
 
@@ -40,7 +41,7 @@ fn show(out: &mut Vec<u8>, doc: &Doc) -> Result<(), Fail> {
 }
 
 // Texts that have a value, each with that value as `show` shows it.
-const READ: [[&[u8]; 2]; 40] = [
+const READ: [[&[u8]; 2]; 42] = [
     [b"null", b"n"],
     [b"true", b"t"],
     [b"false", b"f"],
@@ -96,321 +97,130 @@ const READ: [[&[u8]; 2]; 40] = [
     ],
     [b"{\"c\":1,\"b\":2,\"a\":3}", b"{c=#1;b=#2;a=#3;}"],
     [b"\"\\uFFFF\"", b"'\xef\xbf\xbf'"],
+    [
+        b"\"longer than a vector, \\n and on\"",
+        b"'longer than a vector, \n and on'",
+    ],
+    [b"                      [                   1 ]", b"(#1;)"],
 ];
 
-#[derive(Drop)]
-struct Refused {
-    text: &'static [u8],
-    fault: JsonFault,
-}
+// Texts that have no value, with the fault and its place: what stands where.
+const STRUCTURE: [(&[u8], JsonFault); 26] = [
+    (b"", JsonFault::Syntax(0)),
+    (b"  ", JsonFault::Syntax(2)),
+    (b"{\"a\":1,}", JsonFault::Syntax(7)),
+    (b"[1,]", JsonFault::Syntax(3)),
+    (b"[,1]", JsonFault::Syntax(1)),
+    (b"{,}", JsonFault::Syntax(1)),
+    (b"[1 2]", JsonFault::Syntax(3)),
+    (b"{\"a\" 1}", JsonFault::Syntax(5)),
+    (b"{\"a\":}", JsonFault::Syntax(5)),
+    (b"{a:1}", JsonFault::Syntax(1)),
+    (b"{1:1}", JsonFault::Syntax(1)),
+    (b"{\"a\":1 \"b\":2}", JsonFault::Syntax(7)),
+    (b"{\"a\":1]", JsonFault::Syntax(6)),
+    (b"[1}", JsonFault::Syntax(2)),
+    (b"]", JsonFault::Syntax(0)),
+    (b"1 1", JsonFault::Syntax(2)),
+    (b"null null", JsonFault::Syntax(5)),
+    (b"[]]", JsonFault::Syntax(2)),
+    (b"nulL", JsonFault::Syntax(3)),
+    (b"True", JsonFault::Syntax(0)),
+    (b"truex", JsonFault::Syntax(4)),
+    (b"fals3", JsonFault::Syntax(4)),
+    (b"NaN", JsonFault::Syntax(0)),
+    (b"Infinity", JsonFault::Syntax(0)),
+    (b"\xef\xbb\xbf{}", JsonFault::Syntax(0)),
+    (b"[\xc3\xa9]", JsonFault::Syntax(1)),
+];
 
-// The texts that have none, with the fault and its place.
-const REFUSED: [Refused; 60] = [
-    Refused {
-        text: b"",
-        fault: JsonFault::Syntax(0),
-    },
-    Refused {
-        text: b"  ",
-        fault: JsonFault::Syntax(2),
-    },
-    Refused {
-        text: b"{\"a\":1,}",
-        fault: JsonFault::Syntax(7),
-    },
-    Refused {
-        text: b"[1,]",
-        fault: JsonFault::Syntax(3),
-    },
-    Refused {
-        text: b"[,1]",
-        fault: JsonFault::Syntax(1),
-    },
-    Refused {
-        text: b"{,}",
-        fault: JsonFault::Syntax(1),
-    },
-    Refused {
-        text: b"[1 2]",
-        fault: JsonFault::Syntax(3),
-    },
-    Refused {
-        text: b"{\"a\" 1}",
-        fault: JsonFault::Syntax(5),
-    },
-    Refused {
-        text: b"{\"a\":}",
-        fault: JsonFault::Syntax(5),
-    },
-    Refused {
-        text: b"{a:1}",
-        fault: JsonFault::Syntax(1),
-    },
-    Refused {
-        text: b"{1:1}",
-        fault: JsonFault::Syntax(1),
-    },
-    Refused {
-        text: b"{\"a\":1 \"b\":2}",
-        fault: JsonFault::Syntax(7),
-    },
-    Refused {
-        text: b"{\"a\":1]",
-        fault: JsonFault::Syntax(6),
-    },
-    Refused {
-        text: b"[1}",
-        fault: JsonFault::Syntax(2),
-    },
-    Refused {
-        text: b"]",
-        fault: JsonFault::Syntax(0),
-    },
-    Refused {
-        text: b"1 1",
-        fault: JsonFault::Syntax(2),
-    },
-    Refused {
-        text: b"null null",
-        fault: JsonFault::Syntax(5),
-    },
-    Refused {
-        text: b"[]]",
-        fault: JsonFault::Syntax(2),
-    },
-    Refused {
-        text: b"nulL",
-        fault: JsonFault::Syntax(3),
-    },
-    Refused {
-        text: b"True",
-        fault: JsonFault::Syntax(0),
-    },
-    Refused {
-        text: b"truex",
-        fault: JsonFault::Syntax(4),
-    },
-    Refused {
-        text: b"fals3",
-        fault: JsonFault::Syntax(4),
-    },
-    Refused {
-        text: b"01",
-        fault: JsonFault::Syntax(1),
-    },
-    Refused {
-        text: b"-01",
-        fault: JsonFault::Syntax(2),
-    },
-    Refused {
-        text: b"+1",
-        fault: JsonFault::Syntax(0),
-    },
-    Refused {
-        text: b".5",
-        fault: JsonFault::Syntax(0),
-    },
-    Refused {
-        text: b"1.",
-        fault: JsonFault::Syntax(2),
-    },
-    Refused {
-        text: b"1.e5",
-        fault: JsonFault::Syntax(2),
-    },
-    Refused {
-        text: b"-",
-        fault: JsonFault::Syntax(1),
-    },
-    Refused {
-        text: b"-a",
-        fault: JsonFault::Syntax(1),
-    },
-    Refused {
-        text: b"1e",
-        fault: JsonFault::Syntax(2),
-    },
-    Refused {
-        text: b"1e+",
-        fault: JsonFault::Syntax(3),
-    },
-    Refused {
-        text: b"1e5.0",
-        fault: JsonFault::Syntax(3),
-    },
-    Refused {
-        text: b"0x10",
-        fault: JsonFault::Syntax(1),
-    },
-    Refused {
-        text: b"[1.5.5]",
-        fault: JsonFault::Syntax(4),
-    },
-    Refused {
-        text: b"NaN",
-        fault: JsonFault::Syntax(0),
-    },
-    Refused {
-        text: b"Infinity",
-        fault: JsonFault::Syntax(0),
-    },
-    Refused {
-        text: b"\"",
-        fault: JsonFault::Syntax(1),
-    },
-    Refused {
-        text: b"\"a",
-        fault: JsonFault::Syntax(2),
-    },
-    Refused {
-        text: b"\"a\nb\"",
-        fault: JsonFault::Syntax(2),
-    },
-    Refused {
-        text: b"\"\x1f\"",
-        fault: JsonFault::Syntax(1),
-    },
-    Refused {
-        text: b"'a'",
-        fault: JsonFault::Syntax(0),
-    },
-    Refused {
-        text: b"\"\\x\"",
-        fault: JsonFault::Syntax(2),
-    },
-    Refused {
-        text: b"\"\\u12g4\"",
-        fault: JsonFault::Syntax(5),
-    },
-    Refused {
-        text: b"\"\\u123\"",
-        fault: JsonFault::Syntax(6),
-    },
+// Numbers that are none.
+const NUMBERS: [(&[u8], JsonFault); 13] = [
+    (b"01", JsonFault::Syntax(1)),
+    (b"-01", JsonFault::Syntax(2)),
+    (b"+1", JsonFault::Syntax(0)),
+    (b".5", JsonFault::Syntax(0)),
+    (b"1.", JsonFault::Syntax(2)),
+    (b"1.e5", JsonFault::Syntax(2)),
+    (b"-", JsonFault::Syntax(1)),
+    (b"-a", JsonFault::Syntax(1)),
+    (b"1e", JsonFault::Syntax(2)),
+    (b"1e+", JsonFault::Syntax(3)),
+    (b"1e5.0", JsonFault::Syntax(3)),
+    (b"0x10", JsonFault::Syntax(1)),
+    (b"[1.5.5]", JsonFault::Syntax(4)),
+];
+
+// Strings that are none.
+const STRINGS: [(&[u8], JsonFault); 15] = [
+    (b"\"", JsonFault::Syntax(1)),
+    (b"\"a", JsonFault::Syntax(2)),
+    (b"\"a\nb\"", JsonFault::Syntax(2)),
+    (b"\"\x1f\"", JsonFault::Syntax(1)),
+    (b"'a'", JsonFault::Syntax(0)),
+    (b"\"\\x\"", JsonFault::Syntax(2)),
+    (b"\"\\u12g4\"", JsonFault::Syntax(5)),
+    (b"\"\\u123\"", JsonFault::Syntax(6)),
     // A low half alone ends at the digit that makes it one; a high half wants the other half.
-    Refused {
-        text: b"\"\\udc00\"",
-        fault: JsonFault::Syntax(4),
-    },
-    Refused {
-        text: b"\"\\uDFFF\"",
-        fault: JsonFault::Syntax(4),
-    },
-    Refused {
-        text: b"\"\\ud800\"",
-        fault: JsonFault::Syntax(7),
-    },
-    Refused {
-        text: b"\"\\ud800x\"",
-        fault: JsonFault::Syntax(7),
-    },
-    Refused {
-        text: b"\"\\ud800\\n\"",
-        fault: JsonFault::Syntax(8),
-    },
-    Refused {
-        text: b"\"\\ud800\\u0041\"",
-        fault: JsonFault::Syntax(9),
-    },
-    Refused {
-        text: b"\"\\ud800\\ud800\"",
-        fault: JsonFault::Syntax(10),
-    },
-    Refused {
-        text: b"\xef\xbb\xbf{}",
-        fault: JsonFault::Syntax(0),
-    },
-    Refused {
-        text: b"[\xc3\xa9]",
-        fault: JsonFault::Syntax(1),
-    },
-    // What is not UTF-8 comes first, also behind another fault.
-    Refused {
-        text: b"\xff",
-        fault: JsonFault::NotUtf8(0),
-    },
-    Refused {
-        text: b"{\"a\":1,}\x80",
-        fault: JsonFault::NotUtf8(8),
-    },
-    Refused {
-        text: b"\"ab\xc3\"",
-        fault: JsonFault::NotUtf8(3),
-    },
-    Refused {
-        text: b"\"\xed\xa0\x80\"",
-        fault: JsonFault::NotUtf8(1),
-    },
-    Refused {
-        text: b"\"\xe2\x82",
-        fault: JsonFault::NotUtf8(1),
-    },
-    Refused {
-        text: b"\"\xc0\xaf\"",
-        fault: JsonFault::NotUtf8(1),
-    },
+    (b"\"\\udc00\"", JsonFault::Syntax(4)),
+    (b"\"\\uDFFF\"", JsonFault::Syntax(4)),
+    (b"\"\\ud800\"", JsonFault::Syntax(7)),
+    (b"\"\\ud800x\"", JsonFault::Syntax(7)),
+    (b"\"\\ud800\\n\"", JsonFault::Syntax(8)),
+    (b"\"\\ud800\\u0041\"", JsonFault::Syntax(9)),
+    (b"\"\\ud800\\ud800\"", JsonFault::Syntax(10)),
 ];
 
-#[derive(Drop)]
-struct Pair {
-    first: &'static [u8],
-    second: &'static [u8],
-    same: bool,
+// What is not UTF-8 comes first, also behind another fault.
+const NOT_UTF8: [(&[u8], JsonFault); 6] = [
+    (b"\xff", JsonFault::NotUtf8(0)),
+    (b"{\"a\":1,}\x80", JsonFault::NotUtf8(8)),
+    (b"\"ab\xc3\"", JsonFault::NotUtf8(3)),
+    (b"\"\xed\xa0\x80\"", JsonFault::NotUtf8(1)),
+    (b"\"\xe2\x82", JsonFault::NotUtf8(1)),
+    (b"\"\xc0\xaf\"", JsonFault::NotUtf8(1)),
+];
+
+// The first row whose text is read, or refused with another fault.
+fn first_wrong(alloc: Global, rows: &[(&[u8], JsonFault)]) -> Option<usize> {
+    for i in 0..rows.len() {
+        let row = &rows[i];
+        match read(alloc, row.0) {
+            Ok(_) => return Some(i),
+            Err(fault) => {
+                if fault != row.1 {
+                    return Some(i);
+                }
+            }
+        }
+    }
+    None
 }
 
-// Whether two texts have one value: blanks and escapes don't count, the order of names and the spelling
-// of a number do.
-const PAIRS: [Pair; 10] = [
-    Pair {
-        first: b"[1,{\"a\":null}]",
-        second: b" [ 1 , { \"\\u0061\" : null } ] ",
-        same: true,
-    },
-    Pair {
-        first: b"{\"a\":1,\"a\":2}",
-        second: b"{\"a\":2}",
-        same: true,
-    },
-    Pair {
-        first: b"{\"a\":1,\"b\":2}",
-        second: b"{\"b\":2,\"a\":1}",
-        same: false,
-    },
-    Pair {
-        first: b"1.0",
-        second: b"1.00",
-        same: false,
-    },
-    Pair {
-        first: b"\"1\"",
-        second: b"1",
-        same: false,
-    },
-    Pair {
-        first: b"[]",
-        second: b"{}",
-        same: false,
-    },
-    Pair {
-        first: b"[1]",
-        second: b"[1,1]",
-        same: false,
-    },
-    Pair {
-        first: b"[1,[2]]",
-        second: b"[1,[3]]",
-        same: false,
-    },
-    Pair {
-        first: b"{\"a\":[]}",
-        second: b"{\"b\":[]}",
-        same: false,
-    },
-    Pair {
-        first: b"true",
-        second: b"false",
-        same: false,
-    },
+// Texts that have one value: blanks and escapes do not count.
+const SAME: [[&[u8]; 2]; 2] = [
+    [b"[1,{\"a\":null}]", b" [ 1 , { \"\\u0061\" : null } ] "],
+    [b"{\"a\":1,\"a\":2}", b"{\"a\":2}"],
 ];
+
+// Texts that have two values: the order of names and the spelling of a number do count.
+const DIFFERENT: [[&[u8]; 2]; 8] = [
+    [b"{\"a\":1,\"b\":2}", b"{\"b\":2,\"a\":1}"],
+    [b"1.0", b"1.00"],
+    [b"\"1\"", b"1"],
+    [b"[]", b"{}"],
+    [b"[1]", b"[1,1]"],
+    [b"[1,[2]]", b"[1,[3]]"],
+    [b"{\"a\":[]}", b"{\"b\":[]}"],
+    [b"true", b"false"],
+];
+
+// Whether both texts are read, as one value.
+fn are_same(alloc: Global, texts: &[&[u8]; 2]) -> Option<bool> {
+    let first = read(alloc, texts[0]).ok()?;
+    let second = read(alloc, texts[1]).ok()?;
+    Some(first == second)
+}
 
 // The parts of a document: `{"list":[null,true,"text",-1.5]}`.
 fn look(rt: &impl Abort, doc: &Doc) -> Result<(), Fail> {
@@ -430,23 +240,32 @@ fn look(rt: &impl Abort, doc: &Doc) -> Result<(), Fail> {
 }
 
 #[test]
-fn values_and_faults(rt: HostRuntime) -> Result<(), Fail> {
+fn values(rt: HostRuntime) -> Result<(), Fail> {
     for row in &READ {
         let doc = read(rt.alloc(), row[0]).ok().ok_or("no value")?;
         let mut shown = Vec::new(rt.alloc());
         show(&mut shown, &doc)?;
         assert_eq!(rt; shown.as_slice(), row[1]);
     }
-    for row in &REFUSED {
-        match read(rt.alloc(), row.text) {
-            Ok(_) => return Err(Fail::from("a value")),
-            Err(fault) => assert_eq!(rt; fault, row.fault),
-        }
+    Ok(())
+}
+
+#[test]
+fn faults(rt: HostRuntime) -> Result<(), Fail> {
+    assert_eq!(rt; first_wrong(rt.alloc(), &STRUCTURE), None);
+    assert_eq!(rt; first_wrong(rt.alloc(), &NUMBERS), None);
+    assert_eq!(rt; first_wrong(rt.alloc(), &STRINGS), None);
+    assert_eq!(rt; first_wrong(rt.alloc(), &NOT_UTF8), None);
+    Ok(())
+}
+
+#[test]
+fn equality_and_parts(rt: HostRuntime) -> Result<(), Fail> {
+    for texts in &SAME {
+        assert_eq!(rt; are_same(rt.alloc(), texts), Some(true));
     }
-    for row in &PAIRS {
-        let first = read(rt.alloc(), row.first).ok().ok_or("no first value")?;
-        let second = read(rt.alloc(), row.second).ok().ok_or("no second value")?;
-        assert_eq!(rt; first == second, row.same);
+    for texts in &DIFFERENT {
+        assert_eq!(rt; are_same(rt.alloc(), texts), Some(false));
     }
     let doc = read(rt.alloc(), b"{\"list\":[null,true,\"text\",-1.5]}").ok();
     look(&rt, &doc.ok_or("no document")?)

@@ -6,11 +6,12 @@ ghost use Rattle.json_ordered.specs.Docs.{tree_of};
 ghost use Rattle.json_ordered.specs.JsonReading.{Plain, As_value, Before_value, In_word, In_number, In_string};
 ghost use Rattle.json_ordered.specs.JsonFrames.{in_frames, NameSteps, Turn, ValueSteps, ArrayLeft, ObjectLeft, FrameLeft, Ends, WholeSteps};
 
-use crate::blanks::{after_blanks, after_byte, after_word};
+use crate::blanks::{after_blanks, after_byte, after_word, next_byte};
 use crate::doc::Doc;
 use crate::frame::Frame;
 use crate::members::joined;
 use crate::number::{Part, number};
+use crate::room::Room;
 use crate::start::{Start, start_of};
 use crate::step::Step;
 use crate::stop::Stop;
@@ -65,7 +66,7 @@ fn word_value<'a>(text: &'a [u8], word: &[u8], doc: Doc) -> Result<(Step, &'a [u
 
 // Opens an array behind its `[`, with `left` bytes from the `[` on; an empty one ends at once.
 fn open_array<'a>(
-    alloc: Global,
+    room: &mut Room,
     stack: &mut Vec<Frame>,
     left: usize,
     text: &'a [u8],
@@ -79,21 +80,18 @@ fn open_array<'a>(
         return Err(Stop::TooDeep(left));
     }
     let text = after_blanks(text);
-    let Some((byte, rest)) = text.split_first() else {
-        return Err(Stop::Syntax(0));
-    };
-    if *byte == b']' {
-        return Ok((Step::Ended(Doc::List(Vec::new(alloc))), rest));
+    let (byte, rest) = next_byte(text)?;
+    if byte == b']' {
+        return Ok((Step::Ended(Doc::List(Vec::new(room.alloc))), rest));
     }
-    stack.push(Frame::Array {
-        items: Vec::new(alloc),
-    })?;
+    let empty = room.items();
+    stack.push(Frame::Array { items: empty })?;
     Ok((Step::Coming, text))
 }
 
 // Opens an object behind its `{`, with `left` bytes from the `{` on; an empty one ends at once.
 fn open_object<'a>(
-    alloc: Global,
+    room: &mut Room,
     stack: &mut Vec<Frame>,
     left: usize,
     text: &'a [u8],
@@ -107,15 +105,14 @@ fn open_object<'a>(
         return Err(Stop::TooDeep(left));
     }
     let text = after_blanks(text);
-    let Some((byte, rest)) = text.split_first() else {
-        return Err(Stop::Syntax(0));
-    };
-    if *byte == b'}' {
-        return Ok((Step::Ended(Doc::Obj(Vec::new(alloc))), rest));
+    let (byte, rest) = next_byte(text)?;
+    if byte == b'}' {
+        return Ok((Step::Ended(Doc::Obj(Vec::new(room.alloc))), rest));
     }
-    let (name, rest) = member_name(alloc, text)?;
+    let (name, rest) = member_name(room.alloc, text)?;
+    let empty = room.members();
     stack.push(Frame::Object {
-        members: Vec::new(alloc),
+        members: empty,
         name,
     })?;
     Ok((Step::Coming, rest))
@@ -123,6 +120,7 @@ fn open_object<'a>(
 
 // Goes on behind the last item so far of an array.
 fn leave_array<'a>(
+    room: &mut Room,
     stack: &mut Vec<Frame>,
     items: Vec<Doc>,
     text: &'a [u8],
@@ -133,22 +131,20 @@ fn leave_array<'a>(
     ensures bound { length stack.new.items ≤ most_levels }
 {
     let text = after_blanks(text);
-    let Some((byte, rest)) = text.split_first() else {
-        return Err(Stop::Syntax(0));
-    };
-    if *byte == b',' {
+    let (byte, rest) = next_byte(text)?;
+    if byte == b',' {
         stack.push(Frame::Array { items })?;
         return Ok((Step::Coming, rest));
     }
-    if *byte != b']' {
+    if byte != b']' {
         return Err(Stop::Syntax(text.len()));
     }
-    Ok((Step::Ended(Doc::List(items)), rest))
+    Ok((Step::Ended(Doc::List(room.all_items(items)?)), rest))
 }
 
 // Goes on behind the last member so far of an object.
 fn leave_object<'a>(
-    alloc: Global,
+    room: &mut Room,
     stack: &mut Vec<Frame>,
     members: Vec<(Name, Doc)>,
     text: &'a [u8],
@@ -159,23 +155,22 @@ fn leave_object<'a>(
     ensures bound { length stack.new.items ≤ most_levels }
 {
     let text = after_blanks(text);
-    let Some((byte, rest)) = text.split_first() else {
-        return Err(Stop::Syntax(0));
-    };
-    if *byte == b',' {
-        let (name, rest) = member_name(alloc, rest)?;
+    let (byte, rest) = next_byte(text)?;
+    if byte == b',' {
+        let (name, rest) = member_name(room.alloc, rest)?;
         stack.push(Frame::Object { members, name })?;
         return Ok((Step::Coming, rest));
     }
-    if *byte != b'}' {
+    if byte != b'}' {
         return Err(Stop::Syntax(text.len()));
     }
-    Ok((Step::Ended(Doc::Obj(joined(alloc, members)?)), rest))
+    let all = joined(room.alloc, members)?;
+    Ok((Step::Ended(Doc::Obj(room.all_members(all)?)), rest))
 }
 
 // Goes on behind a value inside this frame.
 fn leave<'a>(
-    alloc: Global,
+    room: &mut Room,
     stack: &mut Vec<Frame>,
     frame: Frame,
     doc: Doc,
@@ -189,18 +184,18 @@ fn leave<'a>(
     match frame {
         Frame::Array { mut items } => {
             items.push(doc)?;
-            leave_array(stack, items, text)
+            leave_array(room, stack, items, text)
         }
         Frame::Object { mut members, name } => {
             members.push((Name::of(name), doc))?;
-            leave_object(alloc, stack, members, text)
+            leave_object(room, stack, members, text)
         }
     }
 }
 
 // Goes on where a value comes.
 fn enter<'a>(
-    alloc: Global,
+    room: &mut Room,
     stack: &mut Vec<Frame>,
     text: &'a [u8],
 ) -> Result<(Step, &'a [u8]), Stop>
@@ -209,17 +204,15 @@ fn enter<'a>(
     ensures bound { length stack.old.items ≤ most_levels → length stack.new.items ≤ most_levels }
 {
     let text = after_blanks(text);
-    let Some((byte, rest)) = text.split_first() else {
-        return Err(Stop::Syntax(0));
-    };
-    match start_of(*byte) {
-        Start::Array => open_array(alloc, stack, text.len(), rest),
-        Start::Object => open_object(alloc, stack, text.len(), rest),
-        Start::Quote => string_value(alloc, rest),
+    let (byte, rest) = next_byte(text)?;
+    match start_of(byte) {
+        Start::Array => open_array(room, stack, text.len(), rest),
+        Start::Object => open_object(room, stack, text.len(), rest),
+        Start::Quote => string_value(room.alloc, rest),
         Start::NullWord => word_value(rest, b"ull", Doc::Null),
         Start::TrueWord => word_value(rest, b"rue", Doc::Bool(true)),
         Start::FalseWord => word_value(rest, b"alse", Doc::Bool(false)),
-        Start::Number(first) => number_value(alloc, text, first),
+        Start::Number(first) => number_value(room.alloc, text, first),
         Start::Nothing => Err(Stop::Syntax(text.len())),
     }
 }
@@ -240,15 +233,16 @@ fn whole(doc: Doc, text: &[u8]) -> Result<Doc, Stop>
 pub(crate) fn document(alloc: Global, text: &[u8]) -> Result<Doc, Stop>
     ensures { WholeSteps text.now result }
 {
+    let mut room = Room::new(alloc);
     let mut stack = Vec::new(alloc);
     let mut step = Step::Coming;
     let mut rest = text;
     loop {
         (step, rest) = match step {
-            Step::Coming => enter(alloc, &mut stack, rest)?,
+            Step::Coming => enter(&mut room, &mut stack, rest)?,
             Step::Ended(doc) => match stack.pop() {
                 None => return whole(doc, rest),
-                Some(frame) => leave(alloc, &mut stack, frame, doc, rest)?,
+                Some(frame) => leave(&mut room, &mut stack, frame, doc, rest)?,
             },
         };
     }
