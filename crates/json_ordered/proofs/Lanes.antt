@@ -1,7 +1,7 @@
 -- A mask that is computed lane by lane, held to a test at each of the 256 bytes.
 use Rattle.std.proofs.Common.{◌≡◌, ℕ, zero, suc, ◌%◌, ◌^◌, ◌<◌, ◌≤◌, leb, ltb, Bool, true, false, not, ◌&&◌, ◌⊎◌, inl, inr, cond, eqb, T, List, [], ◌∷◌, map, length, replicate, refl, sym, ap, ap₂, ◌∙◌, subst, arith, w8, Fits, not-suc-le-zero}
 use Rattle.std.proofs.lemmas.Bool.{cases_order}
-use Rattle.std.proofs.lemmas.Simd.{zip2_splat, map-map, mask_l-mod}
+use Rattle.std.proofs.lemmas.Simd.{mask_l-mod}
 use Rattle.std.proofs.lemmas.List.{length-map}
 use lib.Bits.{bit_and, bit_or}
 use lib.Lanes.{zip2, mask_l, top, Each1}

@@ -1,4 +1,4 @@
-use Rattle.std.proofs.Common.{map, sym, subst}
+use Rattle.std.proofs.Common.{map, subst}
 use Rattle.std.specs.List.Sorted.{IsStrictlyIncreasing}
 use Rattle.json_ordered.specs.JsonSeeds.{number_of}
 use Rattle.json_ordered.specs.Docs.{pair_of}
