@@ -1,7 +1,7 @@
 #!/bin/sh
 # Times json_ordered::read on large inputs, freeing included, beside python3's json and PHP's json_decode
-# (where there is a php), which free what they made in the same time too, and measures the memory that the three
-# take for a lock-like file. The names that were picked need a cc.
+# (where there is a php), which free what they made in the same time too; a map with std's fixed seed on names that
+# were picked against it (which need a cc); and the memory that the three readers take for a lock-like file.
 # Usage: bench/json.sh [build], with the kit's `rt` and python3 on the PATH.
 . "$(dirname "$0")/head.sh"
 read=$(program json_read 'json_ordered' path_name json_ordered <<'RT'
@@ -29,13 +29,57 @@ fn main(rt: HostRuntime) -> io::Result<()> {
 }
 RT
 )
+map=$(program names_in_map 'json_ordered path_name indexmap' path_name json_ordered <<'RT'
+// Reads a JSON object from standard input, and three times puts its names into a map that hashes as std's do, with a
+// seed that is fixed; prints the microseconds and how many names the map has.
+#![tactic(auto)]
+
+use indexmap::IndexMap;
+use json_ordered::{Doc, read};
+use path_name::Name;
+use std::alloc::{AllocError, Global};
+use std::io;
+use std::io::Read;
+use std::time::Instant;
+
+fn map_len(alloc: Global, members: &[(Name, Doc)]) -> Result<usize, AllocError> {
+    let mut places = IndexMap::new(alloc);
+    for member in members {
+        if places.insert(member.0.as_slice(), 0u8).is_err() {
+            return Err(AllocError);
+        }
+    }
+    Ok(places.len())
+}
+
+fn main(rt: HostRuntime) -> io::Result<()> {
+    let mut bytes = Vec::new(rt.alloc());
+    let mut input = rt.reader();
+    input.read_to_end(&mut bytes)?;
+    let doc = match read(rt.alloc(), &bytes) {
+        Ok(doc) => doc,
+        Err(_) => Doc::Null,
+    };
+    let members = doc.as_obj().unwrap_or(&[]);
+    for _round in 0..3u8 {
+        let start = Instant::now(&rt)?;
+        let len = map_len(rt.alloc(), members).unwrap_or(0);
+        let took = start.elapsed(&rt)?.as_micros();
+        println!(rt; "map {took} {len}")?;
+    }
+    Ok(())
+}
+RT
+)
 python3 "$top/bench/json_inputs.py" "$work"
 if [ "${1:-}" = build ]; then exit 0; fi
 cd "$work"
-inputs="lock names_200000 names_800000 plain_names_50000 small_objects_500000 deep_lists two_byte_texts numbers_1000000 escapes one_text_64MiB"
+inputs="lock names_200000 names_200000_one_twice names_800000 plain_names_50000 small_objects_500000 deep_lists two_byte_texts numbers_1000000 escapes one_text_64MiB"
+names=plain_names_50000
 if command -v cc > /dev/null && cc -O2 -o picked "$top/bench/picked_names.c"; then
-    ./picked > picked_names_50000
+    [ -f picked_names_50000 ] || ./picked > picked_names_50000
     inputs="$inputs picked_names_50000"
+    names="$names picked_names_50000"
 fi
 cat > by_python.py <<'PY'
 import json, sys, time
@@ -61,6 +105,10 @@ for input in $inputs; do
     if command -v php > /dev/null; then php=$(php -d memory_limit=-1 by_php.php "$input" | least); fi
     size=$(wc -c < "$input")
     awk -v i="$input" -v n="$size" -v o="$ours" -v p="$python" -v h="$php" 'BEGIN { printf "%s %d %d %d %d %.2f %d %.2f\n", i, n, o, n / o, p, p / o, h, h / o }'
+done
+echo "names, and the time that a map with std's seed takes for them alone"
+for input in $names; do
+    echo "$input $("$map" < "$input" | least)"
 done
 # The most memory of each process, less what it takes for a file of two bytes and less the text itself, over the text.
 printf '[]' > nothing
