@@ -1,6 +1,6 @@
 //! The members of an object, once they have all come.
 
-ghost use Rattle.std.specs.Prelude.{◌≡◌, true, [], map, IfOk, IfErr};
+ghost use Rattle.std.specs.Prelude.{◌≡◌, true, [], map, OnOk, IfOk, IfErr};
 ghost use Rattle.std.specs.List.{list_any};
 ghost use Rattle.std.specs.List.Sorted.{IsStrictlyIncreasing};
 ghost use Rattle.path_name.specs.Orders.{bytes_are_equal};
@@ -109,18 +109,13 @@ fn pairs(alloc: Global, members: IndexMap<Vec<u8>, Doc, Seeded>) -> Result<Vec<(
     Ok(pairs)
 }
 
-// The members with one more: a name that is there keeps its place and takes the value.
-fn put(
-    members: IndexMap<Vec<u8>, Doc, Seeded>,
-    name: Vec<u8>,
-    doc: Doc,
-) -> Result<IndexMap<Vec<u8>, Doc, Seeded>, Stop>
-    ensures ok { IfOk result (λ all. map entry_of all.entries ≡ put (map entry_of members.entries) name.items (tree_of doc)) }
+// Puts in one more member: a name that is there keeps its place and takes the value.
+fn put(members: &mut IndexMap<Vec<u8>, Doc, Seeded>, name: Vec<u8>, doc: Doc) -> Result<(), Stop>
+    ensures ok { OnOk result (map entry_of members.new.entries ≡ put (map entry_of members.old.entries) name.items (tree_of doc)) }
     ensures err { IfErr result (λ e. e ≡ Stop.OutOfMemory) }
 {
-    let mut members = members;
     let _old = members.insert(name, doc)?;
-    Ok(members)
+    Ok(())
 }
 
 // The members by the rule for repeated names, put into a map one after the other.
@@ -129,9 +124,9 @@ fn put_in_turn(alloc: Global, members: Vec<(Name, Doc)>) -> Result<Vec<(Name, Do
     ensures err { IfErr result (λ e. e ≡ Stop.OutOfMemory) }
 {
     let seed = Seeded::by_names(members.as_slice());
-    let mut all = IndexMap::with_hasher(alloc, seed);
+    let mut all = IndexMap::with_capacity_and_hasher(alloc, members.len(), seed)?;
     for (name, doc) in members {
-        all = put(all, name.into_vec(), doc)?;
+        put(&mut all, name.into_vec(), doc)?;
     }
     pairs(alloc, all)
 }
