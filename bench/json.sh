@@ -97,14 +97,22 @@ for ($i = 0; $i < 3; $i++) {
     echo 'read ', round((microtime(true) - $start) * 1e6), "\n";
 }
 PHP
+# Each is timed in three processes, by turns, since a machine may have other work at times: the least of nine counts.
 echo "input bytes read_us MB/s python_us python/ours php_us php/ours"
 for input in $inputs; do
-    ours=$("$read" < "$input" | least)
-    python=$(python3 by_python.py "$input" | least)
-    php=0
-    if command -v php > /dev/null; then php=$(php -d memory_limit=-1 by_php.php "$input" | least); fi
+    : > ours
+    : > pythons
+    echo 'read 0' > phps
+    for turn in 1 2 3; do
+        "$read" < "$input" >> ours
+        python3 by_python.py "$input" >> pythons
+        if command -v php > /dev/null; then
+            [ "$turn" = 1 ] && : > phps
+            php -d memory_limit=-1 by_php.php "$input" >> phps
+        fi
+    done
     size=$(wc -c < "$input")
-    awk -v i="$input" -v n="$size" -v o="$ours" -v p="$python" -v h="$php" 'BEGIN { printf "%s %d %d %d %d %.2f %d %.2f\n", i, n, o, n / o, p, p / o, h, h / o }'
+    awk -v i="$input" -v n="$size" -v o="$(least < ours)" -v p="$(least < pythons)" -v h="$(least < phps)" 'BEGIN { printf "%s %d %d %d %d %.2f %d %.2f\n", i, n, o, n / o, p, p / o, h, h / o }'
 done
 echo "names, and the time that a map with std's seed takes for them alone"
 for input in $names; do

@@ -1,6 +1,6 @@
 #!/bin/sh
 # Times both printers of json_ordered and the content hash, beside PHP's json_encode and python3's json.dumps where
-# they print the same form, and PHP's and python3's MD5: best of three each, the value in memory, freeing included.
+# they print the same form, and PHP's and python3's MD5, the value in memory, freeing included.
 # Usage: bench/json_print.sh [build], with the kit's `rt`, python3 and, if there is one, php on the PATH.
 . "$(dirname "$0")/head.sh"
 print=$(program json_print 'json_ordered content_hash' path_name json_ordered content_hash <<'RT'
@@ -90,12 +90,17 @@ foreach ($forms as $form => $printed) {
     }
 }
 PHP
+# Each is timed in three processes, by turns, since a machine may have other work at times: the least of nine counts.
 echo "input form bytes print_us MB/s python_us python/ours php_us php/ours"
 for input in lock lock_4096 manifest; do
-    "$print" < "$input" > ours
-    python3 by_python.py "$input" > pythons
+    : > ours
+    : > pythons
     : > phps
-    if command -v php > /dev/null; then php -d memory_limit=-1 by_php.php "$input" > phps; fi
+    for turn in 1 2 3; do
+        "$print" < "$input" >> ours
+        python3 by_python.py "$input" >> pythons
+        if command -v php > /dev/null; then php -d memory_limit=-1 by_php.php "$input" >> phps; fi
+    done
     for form in pretty compact hash; do
         case "$input $form" in lock*hash) continue ;; esac
         ours=$(grep "^$form " ours | least)
