@@ -51,4 +51,6 @@ function cut(string $text): string {
     }
     return implode('', array_map(fn($x) => $x[0] . $x[1], $out));
 }
-foreach (file($argv[1], FILE_IGNORE_NEW_LINES) as $name) echo cut(file_get_contents($name)), "\n";
+if (realpath($argv[0]) === __FILE__) {
+    foreach (file($argv[1], FILE_IGNORE_NEW_LINES) as $name) echo cut(file_get_contents($name)), "\n";
+}

@@ -1,2 +1,5 @@
 pub mod Solids
 pub mod Visited
+pub mod Gaps
+pub mod Silence
+pub mod Tails

@@ -1,5 +1,6 @@
 -- Lexemes without blanks and comments.
-use Rattle.std.proofs.Common.{◌≡◌, ℕ, Bool, true, false, ◌&&◌, List, [], ◌∷◌, Option, Some, None, ◌∙◌, ap, refl}
+use Rattle.std.proofs.Common.{◌≡◌, ℕ, Bool, true, false, ◌&&◌, List, [], ◌∷◌, Option, Some, None, ◌∙◌, ap, sym, refl, length, drop, ◌+◌}
+use Rattle.std.proofs.lemmas.List.{drop_at, drop-drop}
 use Rattle.php_lex.specs.declared.lexeme.LexKind.{LexKind}
 use Rattle.php_lex.specs.Cut.{Lex, Standing, Takes, IsCutFrom, IsCutOf}
 use Rattle.php_lex.proofs.OneCut.{cut_off, one_cut, cut_end}
@@ -28,3 +29,8 @@ namespace_named x xs g h = rw (g, h) refl
 
 pub namespace_none : (x : Lex) (xs : List Lex) → is_sign 123 x ≡ false → is_relative_name x && ends_name xs ≡ false → namespace_of (x ∷ xs) ≡ None
 namespace_none x xs g h = rw (g, h) refl
+
+-- a lexeme on, the rest is what stands from the place there
+pub place_after : (old new : Standing) (kind : LexKind) (bytes : List ℕ) → Takes old kind bytes new → (text : List ℕ) → old.rest ≡ drop old.at text → new.rest ≡ drop new.at text
+place_after old new kind bytes t text e =
+    sym (drop_at bytes new.rest (length bytes) refl) ∙ ap (drop (length bytes)) (sym t.parts ∙ e) ∙ drop-drop (length bytes) old.at text ∙ ap (λ (n : ℕ). drop n text) (sym t.passed)

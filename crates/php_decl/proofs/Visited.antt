@@ -9,6 +9,8 @@ use Rattle.path_name.specs.Orders.{bytes_are_equal}
 use Rattle.php_lex.specs.declared.lexeme.LexKind.{LexKind}
 use Rattle.php_lex.specs.Cut.{Lex, Standing, IsCut, IsCutOf, start_of}
 use Rattle.php_decl.specs.Declarations.{is_plain, is_member, solid, Stand, stands, stands_after, follows_member, is_keyword, is_declaring, identifier_of, declared_by, namespace_of, namespace_by, is_halting, or_earlier, namespace_after, is_halted_after, in_namespace, declared_at, declared_from, names_of}
+use Rattle.php_decl.specs.Quiet.{IsQuiet}
+use Rattle.php_decl.proofs.Silence.{silence}
 use Rattle.php_decl.specs.Words.{equals_word, is_declaring_word, NextSolid, Visits, Leads, Behind}
 
 and_true : (b : Bool) → b && true ≡ b
@@ -128,3 +130,8 @@ module _ (s new : Standing) (x : Lex) (member : Bool) (namespace : List ℕ) (ol
 pub at_end : (s : Standing) (member : Bool) (namespace : List ℕ) (names : List (List ℕ)) (lexemes : List Lex) → Behind s member namespace names lexemes → ((more : List Lex) → IsCutOf s more → solid more ≡ []) → names ≡ names_of lexemes
 at_end s member namespace names lexemes b none =
     sym (append-nil names) ∙ ap (λ (z : List Lex). names ++ declared_from b.earlier (stands_after b.previous z)) (sym (none b.more b.cut)) ∙ b.all
+
+-- where nothing more can be declared
+pub at_quiet : (s : Standing) (member : Bool) (namespace : List ℕ) (names : List (List ℕ)) (lexemes : List Lex) → Behind s member namespace names lexemes → IsQuiet s.rest → names ≡ names_of lexemes
+at_quiet s member namespace names lexemes b q =
+    sym (append-nil names) ∙ ap (λ (z : List (List ℕ)). names ++ z) (sym (silence b.cut q b.earlier b.previous)) ∙ b.all

@@ -1,5 +1,5 @@
 -- The words that matter to declarations, and steps over lexemes, as the code takes them.
-use Rattle.std.specs.Prelude.{◌≡◌, ℕ, ◌<◌, Bool, true, false, ◌||◌, List, [], ◌∷◌, ◌++◌, length, codes, Option, Some, None, map, if◌then◌else◌}
+use Rattle.std.specs.Prelude.{◌≡◌, ℕ, ◌<◌, Bool, true, false, ◌||◌, List, [], ◌∷◌, ◌++◌, length, drop, codes, Option, Some, None, map, if◌then◌else◌}
 use Rattle.std.specs.Borrow.{Bor}
 use Rattle.path_name.specs.Bytes.{lowered}
 use Rattle.path_name.specs.Orders.{bytes_are_equal}
@@ -21,6 +21,7 @@ lex_of x = record { kind = x.kind; bytes = x.bytes.now }
 pub record NextSolid (old : Standing) (x : Lex) (new : Standing) : Type 0 where
   pub on : (lexemes : List Lex) → IsCutOf old lexemes → (more : List Lex) × IsCutOf new more × (solid lexemes ≡ x ∷ solid more)
   pub shorter : length new.rest < length old.rest
+  pub place : (text : List ℕ) → old.rest ≡ drop old.at text → new.rest ≡ drop new.at text
 
 abbrev pub NoneSolid : Standing → Type 0
 NoneSolid old = (lexemes : List Lex) → IsCutOf old lexemes → solid lexemes ≡ []

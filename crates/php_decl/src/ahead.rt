@@ -1,6 +1,6 @@
 //! What stands behind a lexeme, without blanks and comments.
 
-ghost use Rattle.std.specs.Prelude.{◌≡◌, List, MatchOption};
+ghost use Rattle.std.specs.Prelude.{◌≡◌, List, MatchOption, IfSome};
 ghost use Rattle.php_lex.specs.Cut.{Lex, IsCutOf};
 ghost use Rattle.php_decl.specs.Declarations.{solid, is_identifier, is_sign, is_relative_name, ends_name};
 ghost use Rattle.php_decl.specs.Words.{NextSolid, NoneSolid, IsIdentifier, IsNamespace, lex_of};
@@ -11,7 +11,8 @@ use php_lex::{LexKind, Lexeme, Lexer};
 /// The next lexeme that is no blank and no comment.
 #[inline(always)]
 pub(crate) fn next_solid<'a>(lexer: &mut Lexer<'a>) -> Option<Lexeme<'a>>
-    ensures { MatchOption result (NoneSolid lexer.old) (λ x. NextSolid lexer.old (lex_of x) lexer.new) }
+    ensures next { MatchOption result (NoneSolid lexer.old) (λ x. NextSolid lexer.old (lex_of x) lexer.new) }
+    ensures end_place { IfSome result (λ x. x.end ≡ lexer.new.at) }
 {
     while let Some(lexeme) = lexer.next() {
         if !is_skipped(lexeme.kind) {
@@ -29,11 +30,11 @@ fn is_identifier(lexeme: Lexeme<'_>) -> bool
         & !(is_word(lexeme.bytes, b"extends") | is_word(lexeme.bytes, b"implements"))
 }
 
-/// The identifier that a declaring word stands before.
-pub(crate) fn identifier_behind<'a>(lexer: &Lexer<'a>) -> Option<&'a [u8]>
-    ensures { IsIdentifier lexer.now result }
+// The identifier that stands first.
+#[inline(never)]
+fn identifier_from<'a>(mut ahead: Lexer<'a>) -> Option<&'a [u8]>
+    ensures { IsIdentifier ahead.entry result }
 {
-    let mut ahead = lexer.copy();
     match next_solid(&mut ahead) {
         None => None,
         Some(lexeme) => {
@@ -44,6 +45,14 @@ pub(crate) fn identifier_behind<'a>(lexer: &Lexer<'a>) -> Option<&'a [u8]>
             }
         }
     }
+}
+
+/// The identifier that a declaring word stands before.
+#[inline(always)]
+pub(crate) fn identifier_behind<'a>(lexer: &Lexer<'a>) -> Option<&'a [u8]>
+    ensures { IsIdentifier lexer.now result }
+{
+    identifier_from(lexer.copy())
 }
 
 // Whether the lexeme is this one byte.
@@ -74,11 +83,11 @@ fn ends_name(mut ahead: Lexer<'_>) -> bool
     }
 }
 
-/// The namespace that `namespace` stands before, which is empty where it is the global one.
-pub(crate) fn namespace_behind<'a>(lexer: &Lexer<'a>) -> Option<&'a [u8]>
-    ensures { IsNamespace lexer.now result }
+// The namespace whose name stands first, which is empty where it is the global one.
+#[inline(never)]
+fn namespace_from<'a>(mut ahead: Lexer<'a>) -> Option<&'a [u8]>
+    ensures { IsNamespace ahead.entry result }
 {
-    let mut ahead = lexer.copy();
     match next_solid(&mut ahead) {
         None => None,
         Some(lexeme) => {
@@ -92,4 +101,12 @@ pub(crate) fn namespace_behind<'a>(lexer: &Lexer<'a>) -> Option<&'a [u8]>
             }
         }
     }
+}
+
+/// The namespace that `namespace` stands before, which is empty where it is the global one.
+#[inline(always)]
+pub(crate) fn namespace_behind<'a>(lexer: &Lexer<'a>) -> Option<&'a [u8]>
+    ensures { IsNamespace lexer.now result }
+{
+    namespace_from(lexer.copy())
 }

@@ -1,11 +1,13 @@
 //! The names that a file declares.
 
-ghost use Rattle.std.specs.Prelude.{◌≡◌, ◌++◌, List, IfOk};
-ghost use Rattle.php_lex.specs.Cut.{Lex, IsCut, IsCutOf};
-ghost use Rattle.php_decl.specs.Declarations.{solid, identifier_of, full_name, in_namespace, names_of};
+ghost use Rattle.std.specs.Prelude.{◌≡◌, ◌++◌, ℕ, Bool, Option, List, [], drop, IfOk};
+ghost use Rattle.php_lex.specs.Cut.{Lex, IsCut, IsCutFrom, IsCutOf};
+ghost use Rattle.php_decl.specs.Declarations.{Stand, solid, stands_after, identifier_of, full_name, in_namespace, declared_from, names_of};
 ghost use Rattle.php_decl.specs.Words.{Visits, lex_of};
+ghost use Rattle.php_decl.specs.Quiet.{IsQuiet};
 
 use crate::ahead::{identifier_behind, namespace_behind, next_solid};
+use crate::last_word::last_place;
 use crate::word::{is_declaring_word, is_member, is_plain, is_word};
 use path_name::Name;
 use php_lex::{Lexeme, Lexer};
@@ -25,6 +27,7 @@ fn full_name(alloc: Global, namespace: &[u8], identifier: &[u8]) -> Result<Name,
 }
 
 // Adds the name that a declaring word declares, if it does.
+#[inline(always)]
 fn declare(
     alloc: Global,
     lexer: &Lexer<'_>,
@@ -40,6 +43,7 @@ fn declare(
 }
 
 // What a lexeme does: it may add a name. The namespace in force behind it, or None where nothing more is declared.
+#[inline(always)]
 fn visit<'a>(
     alloc: Global,
     lexeme: Lexeme<'a>,
@@ -72,10 +76,9 @@ fn visit<'a>(
     Ok(Some(namespace))
 }
 
-/// The names of the classes, interfaces, traits and enums that a PHP file declares, in order, each under the
-/// namespace in force there. Letters are kept as they stand. Its one refusal is want of memory.
-pub fn declared(alloc: Global, text: &[u8]) -> Result<Vec<Name>, AllocError>
-    // They are those that the lexemes of the file's cut declare.
+// The names that a file declares, by a cut that goes no further than to a place behind which none can be.
+fn declared_until(alloc: Global, text: &[u8], last: usize) -> Result<Vec<Name>, AllocError>
+    requires { IsQuiet (drop last text.now) }
     ensures { IfOk result (λ names. (lexemes : List Lex) → IsCut text.now lexemes → names.items ≡ names_of lexemes) }
 {
     let mut lexer = Lexer::new(text);
@@ -88,6 +91,34 @@ pub fn declared(alloc: Global, text: &[u8]) -> Result<Vec<Name>, AllocError>
             None => return Ok(names),
         }
         behind_member = is_member(lexeme.kind);
+        if last as u64 <= lexeme.end {
+            return Ok(names);
+        }
     }
     Ok(names)
 }
+
+/// The names of the classes, interfaces, traits and enums that a PHP file declares, in order, each under the
+/// namespace in force there. Letters are kept as they stand. Its one refusal is want of memory.
+///
+/// The text is cut no further than to the last place where a declaring word can stand.
+pub fn declared(alloc: Global, text: &[u8]) -> Result<Vec<Name>, AllocError>
+    // They are those that the lexemes of the file's cut declare.
+    ensures { IfOk result (λ names. (lexemes : List Lex) → IsCut text.now lexemes → names.items ≡ names_of lexemes) }
+{
+    declared_until(alloc, text, last_place(text))
+}
+
+/// The names that `declared` gives, by a cut of the whole text: its plain form, to compare with.
+pub fn declared_plainly(alloc: Global, text: &[u8]) -> Result<Vec<Name>, AllocError>
+    ensures { IfOk result (λ names. (lexemes : List Lex) → IsCut text.now lexemes → names.items ≡ names_of lexemes) }
+{
+    declared_until(alloc, text, text.len())
+}
+
+/// What the rule says of a text's rest: a law of the definition, which no code runs.
+pub fn laws()
+    // Where no declaring word can stand from a place on, the lexemes from there on declare nothing, whatever stands
+    // before them.
+    ensures { (in_code : Bool) (text : List ℕ) (lexemes : List Lex) → IsCutFrom in_code text lexemes → IsQuiet text → (earlier : List Stand) (previous : Option Lex) → declared_from earlier (stands_after previous (solid lexemes)) ≡ [] }
+{}

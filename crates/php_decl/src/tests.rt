@@ -1,4 +1,5 @@
 use super::*;
+use path_name::Name;
 use std::test::*;
 
 /// A file, and the names that it declares, each with a blank behind it.
@@ -258,15 +259,31 @@ const ROWS: [Row; 62] = [
     },
 ];
 
+// The names, each with a blank behind it.
+pub(crate) fn text_of(rt: &impl AllocGlobal, names: &Vec<Name>) -> Result<Vec<u8>, Fail> {
+    let mut shown = Vec::new(rt.alloc());
+    for name in names {
+        shown.extend_from_slice(name.as_slice())?;
+        shown.push(b' ')?;
+    }
+    Ok(shown)
+}
+
 #[test]
 fn scanner(rt: HostRuntime) -> Result<(), Fail> {
     for row in &ROWS {
         let names = declared(rt.alloc(), row.text.as_bytes())?;
-        let mut shown = Vec::new(rt.alloc());
-        for name in &names {
-            shown.extend_from_slice(name.as_slice())?;
-            shown.push(b' ')?;
-        }
+        let shown = text_of(&rt, &names)?;
+        assert_eq!(rt; shown.as_slice(), row.names.as_bytes());
+    }
+    Ok(())
+}
+
+#[test]
+fn plain_form(rt: HostRuntime) -> Result<(), Fail> {
+    for row in &ROWS {
+        let names = declared_plainly(rt.alloc(), row.text.as_bytes())?;
+        let shown = text_of(&rt, &names)?;
         assert_eq!(rt; shown.as_slice(), row.names.as_bytes());
     }
     Ok(())

@@ -1,7 +1,7 @@
 -- The first place that passes a test, found by a byte that such places have.
-use Rattle.std.proofs.Common.{◌≡◌, ℕ, zero, suc, ◌+◌, ◌-◌, ◌<◌, ◌≤◌, Bool, true, false, List, [], ◌∷◌, length, get_or, drop, Option, Some, None, refl, sym, ap, ◌∙◌, arith}
+use Rattle.std.proofs.Common.{◌≡◌, ℕ, zero, suc, ◌+◌, ◌-◌, ◌<◌, ◌≤◌, Bool, true, false, List, [], ◌∷◌, length, ◌==◌, ◌||◌, get_or, drop, Option, Some, None, refl, sym, ap, ◌∙◌, arith}
 use Rattle.std.proofs.lemmas.List.{drop-drop, drop_more, drop_all, length-drop, get_or-drop}
-use Rattle.memchr.specs.Find.{Nowhere, NoneBefore, Passes}
+use Rattle.memchr.specs.Find.{Nowhere, NoneBefore, Passes, is_byte2, is_byte3}
 use Rattle.php_lex.specs.Places.{has_first, first_place, SkipsTo}
 
 not_true : (b : Bool) → (b ≡ true → ⊥) → b ≡ false
@@ -101,3 +101,22 @@ first_within p zero [] h = absurd cc
 first_within p zero (b ∷ t) h = omega arith
 first_within p (suc n) [] h = absurd cc
 first_within p (suc n) (b ∷ t) h = let lt = first_within p n t h in omega arith
+
+-- the place itself passes
+pub at_once : (p : ℕ → Bool) (text : List ℕ) (at : ℕ) → at ≤ length text → has_first p (drop at text) ≡ true → SkipsTo p text at at
+at_once p text at le h = record { low = omega arith; within = le; none = λ j low below. absurd (omega arith); found = λ lt. h }
+
+-- one of two or three bytes, each tried by itself
+pub first_of2 : (a b : ℕ) (t : List ℕ) → has_first (λ x. x == a) t || has_first (λ x. x == b) t ≡ true → has_first (is_byte2 a b) t ≡ true
+first_of2 a b [] h = absurd cc
+first_of2 a b (x ∷ t) h = h
+
+pub first_of3 : (a b c : ℕ) (t : List ℕ) → (has_first (λ x. x == a) t || has_first (λ x. x == b) t) || has_first (λ x. x == c) t ≡ true → has_first (is_byte3 a b c) t ≡ true
+first_of3 a b c [] h = absurd cc
+first_of3 a b c (x ∷ t) h = h
+
+pub or_of2 : {r s x y : Bool} → r ≡ x → s ≡ y → r || s ≡ true → x || y ≡ true
+or_of2 e f h = cc
+
+pub or_of3 : {q r s x y z : Bool} → q ≡ x → r ≡ y → s ≡ z → (q || r) || s ≡ true → (x || y) || z ≡ true
+or_of3 d e f h = cc

@@ -10,7 +10,7 @@ use Rattle.php_lex.specs.Places.{has_first, after_run}
 use Rattle.php_lex.specs.Comments.{is_close_tag, comment}
 use Rattle.php_lex.specs.Quotes.{Opened, quoted}
 use Rattle.php_lex.specs.Lexemes.{Taken, Whole, Opening, joins, continues_name, after_name, named, sign, word, comment_or, quoted_or, taken}
-use Rattle.php_lex.specs.Marks.{begins_more, is_mark}
+use Rattle.php_lex.specs.Marks.{begins_more, is_mark, begins_word, is_variable}
 use Rattle.php_lex.proofs.Firsts.{first_within}
 
 -- ---- runs and names
@@ -142,8 +142,8 @@ second_long false text h = absurd cc
 
 -- ---- what begins with an identifier, and what begins nothing but a mark
 
-name_is_no : (b k : ℕ) → starts_identifier b ≡ true → starts_identifier k ≡ false → (b == k) ≡ false
-name_is_no b k h n = differ (b == k) (λ e. both (ap starts_identifier (sym (eqb-true b k e)) ∙ h) n) where
+is_no : (test : ℕ → Bool) (b k : ℕ) → test b ≡ true → test k ≡ false → (b == k) ≡ false
+is_no test b k h n = differ (b == k) (λ e. both (ap test (sym (eqb-true b k e)) ∙ h) n) where
   both : {x : Bool} → x ≡ true → x ≡ false → ⊥
   both f g = cc
 
@@ -152,13 +152,39 @@ name_is_no b k h n = differ (b == k) (λ e. both (ap starts_identifier (sym (eqb
   differ false f = refl
 
 name_is_no_blank : (b : ℕ) → starts_identifier b ≡ true → is_blank b ≡ false
-name_is_no_blank b h = rw (name_is_no b 32 h refl, name_is_no b 9 h refl, name_is_no b 10 h refl, name_is_no b 13 h refl) refl
+name_is_no_blank b h = rw (is_no starts_identifier b 32 h refl, is_no starts_identifier b 9 h refl, is_no starts_identifier b 10 h refl, is_no starts_identifier b 13 h refl) refl
 
 pub taken_name : (text : List ℕ) → has_first starts_identifier text ≡ true → taken text ≡ named (after_run continues_identifier text)
 unfolding taken
 taken_name [] h = absurd cc
 taken_name (b ∷ t) h =
-    rw (name_is_no_blank b h, name_is_no b 63 h refl, name_is_no b 47 h refl, name_is_no b 35 h refl, name_is_no b 39 h refl, name_is_no b 34 h refl, name_is_no b 96 h refl, name_is_no b 60 h refl, name_is_no b 36 h refl, h) refl
+    rw (name_is_no_blank b h, is_no starts_identifier b 63 h refl, is_no starts_identifier b 47 h refl, is_no starts_identifier b 35 h refl, is_no starts_identifier b 39 h refl, is_no starts_identifier b 34 h refl, is_no starts_identifier b 96 h refl, is_no starts_identifier b 60 h refl, is_no starts_identifier b 36 h refl, h) refl
+
+no_blank_begins : (b : ℕ) → begins_word b ≡ true → is_blank b ≡ false
+no_blank_begins b h = rw (is_no begins_word b 32 h refl, is_no begins_word b 9 h refl, is_no begins_word b 10 h refl, is_no begins_word b 13 h refl) refl
+
+pub taken_begun : (text : List ℕ) → has_first begins_word text ≡ true → is_close_tag text ≡ false → taken text ≡ word text
+unfolding taken
+taken_begun [] h stays = absurd cc
+taken_begun (b ∷ t) h stays =
+    rw (no_blank_begins b h, stays, is_no begins_word b 47 h refl, is_no begins_word b 35 h refl, is_no begins_word b 39 h refl, is_no begins_word b 34 h refl, is_no begins_word b 96 h refl, is_no begins_word b 60 h refl) refl
+
+dollar_begins : (b : ℕ) (more : Bool) → (b == 36) && more ≡ true → begins_word b ≡ true
+dollar_begins b more h = dollar (is_digit b) (b == 36) _ more h where
+  dollar : (d e s f : Bool) → e && f ≡ true → d || (e || s) ≡ true
+  dollar true e s f h = refl
+  dollar false true s f h = refl
+  dollar false false s f h = absurd cc
+
+no_close : (b : ℕ) (more : Bool) (t : List ℕ) → (b == 36) && more ≡ true → is_close_tag (b ∷ t) ≡ false
+no_close b more t h = rw (is_no (λ (x : ℕ). x == 36) b 63 (first_of_two (b == 36) more h) refl) refl where
+  first_of_two : (e f : Bool) → e && f ≡ true → e ≡ true
+  first_of_two true f h = refl
+  first_of_two false f h = absurd cc
+
+pub taken_variable : (text : List ℕ) → is_variable text ≡ true → taken text ≡ word text
+taken_variable [] h = absurd cc
+taken_variable (b ∷ t) h = taken_begun (b ∷ t) (dollar_begins b (has_first starts_identifier t) h) (no_close b (has_first starts_identifier t) t h)
 
 pub taken_mark : (text : List ℕ) → has_first is_mark text ≡ true → taken text ≡ Whole kinds.Mark (drop 1 text)
 unfolding taken

@@ -40,3 +40,8 @@ IsPiece element text (pieces.Quoted opening len) = Arrives element text len (Chi
 abbrev pub EndsAt : ℕ → Element → List ℕ → Option ℕ → Type 0
 EndsAt levels element text None = (rest : List ℕ) → Ends levels element text rest → ⊥
 EndsAt levels element text (Some len) = (len ≤ length text) × Ends levels element text (drop len text)
+
+-- the same from a place of the text on, with the length counted from the text's front
+abbrev pub EndsFrom : ℕ → Element → List ℕ → ℕ → Option ℕ → Type 0
+EndsFrom levels element text at None = (rest : List ℕ) → Ends levels element (drop at text) rest → ⊥
+EndsFrom levels element text at (Some len) = (len ≤ length text) × Ends levels element (drop at text) (drop len text)

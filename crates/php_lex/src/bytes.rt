@@ -3,17 +3,18 @@
 ghost use Rattle.std.specs.Prelude.{◌≡◌, ◌≤◌, ◌==◌, length, take, drop};
 ghost use Rattle.path_name.specs.Bytes.{is_blank, is_digit, lower, starts_identifier, continues_identifier};
 ghost use Rattle.php_lex.specs.Places.{has_first, begins_with, run_of, after_run, is_space, is_line_end, SkipsTo};
-ghost use Rattle.php_lex.specs.Marks.{is_mark};
+ghost use Rattle.php_lex.specs.Marks.{is_mark, begins_word};
 ghost use Rattle.memchr.specs.Find.{is_byte, is_byte2, is_byte3};
 
 use memchr::{memchr, memchr2, memchr3};
 
 // For each byte a digit: 0 for a digit, 1 for a byte that starts an identifier, 2 for a blank, 3 for a byte
-// that can begin nothing but a mark, 4 for another.
+// that can begin nothing but a mark, 5 for another that can begin neither a comment nor a quoted element, 4 for the
+// rest.
 static CLASSES: [u8; 256] = *b"\
     33333333322332333333333333333333\
-    23444334333334340000000000434334\
-    31111111111111111111111111134331\
+    23445334333335340000000000534335\
+    31111111111111111111111111135331\
     41111111111111111111111111133333\
     11111111111111111111111111111111\
     11111111111111111111111111111111\
@@ -58,6 +59,15 @@ fn is_mark(byte: u8) -> bool
     ensures { result ≡ is_mark byte }
 {
     CLASSES[usize::from(byte)] == b'3'
+}
+
+// Whether the byte begins neither a blank, a comment nor a quoted element.
+#[inline(always)]
+fn begins_word(byte: u8) -> bool
+    ensures { result ≡ begins_word byte }
+{
+    let class = CLASSES[usize::from(byte)];
+    (class == b'5') | (class == b'0')
 }
 
 /// Whether the byte is LF or CR.
@@ -124,6 +134,14 @@ pub(crate) fn is_mark_at(text: &[u8], at: usize) -> bool
     at < text.len() && is_mark(text[at])
 }
 
+/// Whether a byte that begins neither a blank, a comment nor a quoted element stands at a place.
+#[inline(always)]
+pub(crate) fn begins_word_at(text: &[u8], at: usize) -> bool
+    ensures { result ≡ has_first begins_word (drop at text.now) }
+{
+    at < text.len() && begins_word(text[at])
+}
+
 /// Whether LF or CR stands at a place.
 #[inline(always)]
 pub(crate) fn has_line_end_at(text: &[u8], at: usize) -> bool
@@ -186,6 +204,9 @@ pub(crate) fn find(text: &[u8], at: usize, byte: u8) -> usize
     requires { at ≤ length text.now }
     ensures { SkipsTo (is_byte byte) text.now at result }
 {
+    if has_at(text, at, byte) {
+        return at;
+    }
     match memchr(byte, text.split_at(at).1) {
         Some(ahead) => at + ahead,
         None => text.len(),
@@ -198,6 +219,9 @@ pub(crate) fn find2(text: &[u8], at: usize, a: u8, b: u8) -> usize
     requires { at ≤ length text.now }
     ensures { SkipsTo (is_byte2 a b) text.now at result }
 {
+    if has_at(text, at, a) | has_at(text, at, b) {
+        return at;
+    }
     match memchr2(a, b, text.split_at(at).1) {
         Some(ahead) => at + ahead,
         None => text.len(),
@@ -210,6 +234,9 @@ pub(crate) fn find3(text: &[u8], at: usize, a: u8, b: u8, c: u8) -> usize
     requires { at ≤ length text.now }
     ensures { SkipsTo (is_byte3 a b c) text.now at result }
 {
+    if has_at(text, at, a) | has_at(text, at, b) | has_at(text, at, c) {
+        return at;
+    }
     match memchr3(a, b, c, text.split_at(at).1) {
         Some(ahead) => at + ahead,
         None => text.len(),

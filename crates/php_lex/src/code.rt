@@ -3,26 +3,25 @@
 ghost use Rattle.std.specs.Prelude.{◌≡◌, ◌<◌, false, true, length};
 ghost use Rattle.path_name.specs.Bytes.{is_blank};
 ghost use Rattle.php_lex.specs.Places.{has_first};
+ghost use Rattle.php_lex.specs.Comments.{is_close_tag};
 ghost use Rattle.php_lex.specs.Lengths.{IsFirst};
 
-use crate::bytes::{blanks_len, is_blank_at, is_mark_at, starts_identifier_at};
+use crate::bytes::{begins_word_at, blanks_len, is_blank_at, is_mark_at, starts_identifier_at};
 use crate::comments::{comment_len, is_close_tag};
 use crate::lexeme::LexKind;
 use crate::nested::quoted_len;
 use crate::opening::quoted;
 use crate::tags::{html_len, is_tag, tag_len};
-use crate::word::{name, word};
+use crate::word::{is_variable, name, variable, word};
 
-// In code, where no blank stands.
+// In code, where neither a blank nor `?>` stands.
 #[inline(never)]
 fn other_lexeme(text: &[u8]) -> (LexKind, usize)
     requires some { 0 < length text.now }
     requires other { has_first is_blank text.now ≡ false }
+    requires stays { is_close_tag text.now ≡ false }
     ensures { IsFirst true text.now result }
 {
-    if is_close_tag(text) {
-        return (LexKind::Close, 2);
-    }
     if let Some(len) = comment_len(text) {
         return (LexKind::Comment, len);
     }
@@ -49,6 +48,15 @@ fn code_lexeme(text: &[u8]) -> (LexKind, usize)
     }
     if is_mark_at(text, 0) {
         return (LexKind::Mark, 1);
+    }
+    if is_variable(text) {
+        return variable(text);
+    }
+    if is_close_tag(text) {
+        return (LexKind::Close, 2);
+    }
+    if begins_word_at(text, 0) {
+        return word(text);
     }
     other_lexeme(text)
 }

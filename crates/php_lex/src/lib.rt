@@ -18,4 +18,6 @@ pub use lexeme::{LexKind, Lexeme};
 pub use lexer::Lexer;
 
 #[cfg(test)]
+mod real;
+#[cfg(test)]
 mod tests;

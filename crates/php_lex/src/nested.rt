@@ -3,7 +3,7 @@
 ghost use Rattle.std.specs.Prelude.{◌≡◌, ◌+◌, ◌^◌, ◌<◌, ◌≤◌, length};
 ghost use Rattle.php_lex.specs.Openings.{element_of};
 ghost use Rattle.php_lex.specs.Cut.{inner_levels};
-ghost use Rattle.php_lex.specs.Pieces.{IsPiece, EndsAt};
+ghost use Rattle.php_lex.specs.Pieces.{IsPiece, EndsAt, EndsFrom};
 ghost use Rattle.php_lex.specs.Stacks.{innermost, HasRoom, IsStep};
 
 use crate::opening::Opening;
@@ -133,6 +133,17 @@ pub(crate) fn nested_len<'a>(opening: Opening<'a>, text: &'a [u8]) -> Option<usi
     None
 }
 
+// From a place inside a quoted element, the length up to behind its end, if it has one.
+fn nested_end<'a>(opening: Opening<'a>, text: &'a [u8], at: usize) -> Option<usize>
+    requires { at ≤ length text.now }
+    ensures { EndsFrom inner_levels (element_of opening.entry) text.now at result }
+{
+    match nested_len(opening, text.split_at(at).1) {
+        Some(len) => Some(at + len),
+        None => None,
+    }
+}
+
 /// From inside a quoted element, the length up to behind its end, if it has one.
 #[inline(always)]
 pub(crate) fn quoted_len<'a>(opening: Opening<'a>, text: &'a [u8]) -> Option<usize>
@@ -140,16 +151,10 @@ pub(crate) fn quoted_len<'a>(opening: Opening<'a>, text: &'a [u8]) -> Option<usi
 {
     let mut at = 0;
     while at < text.len() {
-        let rest = text.split_at(at).1;
-        match quoted_piece(opening, rest) {
+        match quoted_piece(opening, text.split_at(at).1) {
             Piece::Plain(len) => at += len,
             Piece::Closed(len) => return Some(at + len),
-            _ => {
-                return match nested_len(opening, rest) {
-                    Some(len) => Some(at + len),
-                    None => None,
-                };
-            }
+            _ => return nested_end(opening, text, at),
         }
     }
     None

@@ -107,7 +107,9 @@ pub(crate) fn quoted(text: &[u8]) -> Option<(Opening<'_>, usize)>
         Some((Opening::Double, 1))
     } else if has_at(text, 0, b'`') {
         Some((Opening::Backtick, 1))
-    } else {
+    } else if opens_heredoc(text) {
         heredoc(text)
+    } else {
+        None
     }
 }

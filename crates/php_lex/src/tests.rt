@@ -7,7 +7,7 @@ struct Row {
     cut: &'static str,
 }
 
-fn letter(kind: LexKind) -> u8 {
+pub(crate) fn letter(kind: LexKind) -> u8 {
     match kind {
         LexKind::Html => b'H',
         LexKind::Open => b'O',

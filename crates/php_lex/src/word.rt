@@ -4,6 +4,7 @@ ghost use Rattle.std.specs.Prelude.{◌≡◌, ◌<◌, ◌≤◌, true, length,
 ghost use Rattle.path_name.specs.Bytes.{starts_identifier, continues_identifier};
 ghost use Rattle.php_lex.specs.Places.{has_first, after_run};
 ghost use Rattle.php_lex.specs.Lexemes.{joins, continues_name, after_name, named, sign, word};
+ghost use Rattle.php_lex.specs.Marks.{is_variable};
 ghost use Rattle.php_lex.specs.Lengths.{IsWhole};
 
 use crate::bytes::{
@@ -75,13 +76,30 @@ fn sign(text: &[u8]) -> (LexKind, usize)
     }
 }
 
+/// Whether a variable stands here.
+#[inline(always)]
+pub(crate) fn is_variable(text: &[u8]) -> bool
+    ensures { result ≡ is_variable text.now }
+{
+    has_at(text, 0, b'$') & starts_identifier_at(text, 1)
+}
+
+/// The variable that stands here, and its length.
+#[inline(always)]
+pub(crate) fn variable(text: &[u8]) -> (LexKind, usize)
+    requires { is_variable text.now ≡ true }
+    ensures { IsWhole text.now result (word text.now) }
+{
+    (LexKind::Variable, 1 + identifier_len(text.split_at(1).1))
+}
+
 /// The variable, name, number or sign that stands here, and its length.
 pub(crate) fn word(text: &[u8]) -> (LexKind, usize)
     requires { 0 < length text.now }
     ensures { IsWhole text.now result (word text.now) }
 {
-    if has_at(text, 0, b'$') & starts_identifier_at(text, 1) {
-        (LexKind::Variable, 1 + identifier_len(text.split_at(1).1))
+    if is_variable(text) {
+        variable(text)
     } else if starts_identifier_at(text, 0) {
         name(text)
     } else if joins_at(text, 0) {

@@ -1,5 +1,6 @@
+use Rattle.std.proofs.Common.{sym, ◌∙◌}
 use Rattle.memchr.specs.Find.{is_byte}
-use Rattle.php_lex.proofs.Firsts.{found, none_found}
+use Rattle.php_lex.proofs.Firsts.{found, none_found, at_once}
 use Rattle.php_lex.proofs.bytes.find.Goals as goal
 
 pub returns-in-Some : goal.returns-in-Some
@@ -7,3 +8,6 @@ returns-in-Some c = found (is_byte c.args.byte) c.args.text.now c.args.at c.in-S
 
 pub returns-in-None : goal.returns-in-None
 returns-in-None c = none_found (is_byte c.args.byte) c.args.text.now c.args.at c.split_at.result.1.now c.split_at.ensures.back c.requires c.in-None.ensures
+
+pub returns-then-has_at : goal.returns-then-has_at
+returns-then-has_at c = at_once (is_byte c.args.byte) c.args.text.now c.args.at c.requires (sym c.has_at.ensures ∙ c.if-has_at.true)

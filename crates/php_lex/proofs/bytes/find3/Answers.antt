@@ -1,5 +1,6 @@
+use Rattle.std.proofs.Common.{drop}
 use Rattle.memchr.specs.Find.{is_byte3}
-use Rattle.php_lex.proofs.Firsts.{found, none_found}
+use Rattle.php_lex.proofs.Firsts.{found, none_found, at_once, first_of3, or_of3}
 use Rattle.php_lex.proofs.bytes.find3.Goals as goal
 
 pub returns-in-Some : goal.returns-in-Some
@@ -7,3 +8,6 @@ returns-in-Some c = found (is_byte3 c.args.a c.args.b c.args.c) c.args.text.now 
 
 pub returns-in-None : goal.returns-in-None
 returns-in-None c = none_found (is_byte3 c.args.a c.args.b c.args.c) c.args.text.now c.args.at c.split_at.result.1.now c.split_at.ensures.back c.requires c.in-None.ensures
+
+pub returns-then-has_at : goal.returns-then-has_at
+returns-then-has_at c = at_once (is_byte3 c.args.a c.args.b c.args.c) c.args.text.now c.args.at c.requires (first_of3 c.args.a c.args.b c.args.c (drop c.args.at c.args.text.now) (or_of3 c.has_at.ensures c.has_at-2.ensures c.has_at-3.ensures c.if-has_at.true))

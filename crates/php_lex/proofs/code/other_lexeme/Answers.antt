@@ -3,18 +3,13 @@ use Rattle.std.proofs.lemmas.List.{drop_all, drop-drop, length-drop}
 use Rattle.php_lex.specs.Elements.{Ends}
 use Rattle.php_lex.specs.Openings.{element_of}
 use Rattle.php_lex.specs.Cut.{whole, closed, unclosed}
-use Rattle.php_lex.proofs.Wholes.{close_long, taken_close, taken_comment, taken_quoted, taken_word}
+use Rattle.php_lex.proofs.Wholes.{taken_comment, taken_quoted, taken_word}
 use Rattle.php_lex.proofs.code.other_lexeme.Goals as goal
-
-pub returns-then-is_close_tag : goal.returns-then-is_close_tag
-returns-then-is_close_tag c =
-    let h = sym c.is_close_tag.ensures ∙ c.if-is_close_tag.true in
-    (omega arith, close_long c.args.text.now h, whole (taken_close c.args.text.now c.requires.other h))
 
 pub returns-in-Some : goal.returns-in-Some
 returns-in-Some c =
     let e = c.in-Some.ensures in
-    (e.0, e.1, whole (taken_comment c.args.text.now c.requires.other (sym c.is_close_tag.ensures ∙ c.if-is_close_tag.false) _ e.2))
+    (e.0, e.1, whole (taken_comment c.args.text.now c.requires.other c.requires.stays _ e.2))
 
 pub returns-in-Some-quoted_len : goal.returns-in-Some-quoted_len
 returns-in-Some-quoted_len c =
@@ -32,7 +27,7 @@ returns-in-Some-quoted_len c =
     let fits = ends.0 in
     let at : drop more rest ≡ drop (len + more) text = ap (drop more) back ∙ drop-drop more len text in
     let y = subst (λ (t : List ℕ). Ends 32 el t (drop (len + more) text)) back (subst (λ (r : List ℕ). Ends 32 el rest r) at ends.1) in
-    (omega arith, omega arith, closed (taken_quoted text c.requires.other (sym c.is_close_tag.ensures ∙ c.if-is_close_tag.false) _ c.in_default.ensures q.2) y)
+    (omega arith, omega arith, closed (taken_quoted text c.requires.other c.requires.stays _ c.in_default.ensures q.2) y)
 
 pub returns-in-None : goal.returns-in-None
 returns-in-None c =
@@ -41,11 +36,11 @@ returns-in-None c =
     let q = c.in-Some-quoted.ensures in (
       c.requires.some,
       omega arith,
-      unclosed (taken_quoted text c.requires.other (sym c.is_close_tag.ensures ∙ c.if-is_close_tag.false) _ c.in_default.ensures q.2)
+      unclosed (taken_quoted text c.requires.other c.requires.stays _ c.in_default.ensures q.2)
           (λ other x. c.in-None.ensures other (subst (λ (t : List ℕ). Ends 32 el t other) (sym c.split_at.ensures.back) x)) (drop_all (length text) text (omega arith)),
     )
 
 pub returns : goal.returns
 returns c =
     let e = c.word.ensures in
-    (e.0, e.1, whole (taken_word c.args.text.now c.requires.other (sym c.is_close_tag.ensures ∙ c.if-is_close_tag.false) c.in_default.ensures c.in_default-quoted.ensures ∙ e.2))
+    (e.0, e.1, whole (taken_word c.args.text.now c.requires.other c.requires.stays c.in_default.ensures c.in_default-quoted.ensures ∙ e.2))
