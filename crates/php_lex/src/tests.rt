@@ -24,7 +24,7 @@ pub(crate) fn letter(kind: LexKind) -> u8 {
     }
 }
 
-const ROWS: [Row; 129] = [
+const ROWS: [Row; 184] = [
     // tags, and text outside code
     Row { kinds: "", cut: "" },
     Row {
@@ -537,6 +537,227 @@ const ROWS: [Row; 129] = [
     Row {
         kinds: "OmmmmBmm",
         cut: "<?php |{|}|(|)| |@|~",
+    },
+    // each construct cut at each byte
+    Row {
+        kinds: "H",
+        cut: "<?",
+    },
+    Row {
+        kinds: "H",
+        cut: "<?p",
+    },
+    Row {
+        kinds: "O",
+        cut: "<?=",
+    },
+    Row {
+        kinds: "Om",
+        cut: "<?php |?",
+    },
+    Row {
+        kinds: "OC",
+        cut: "<?php |?>",
+    },
+    Row {
+        kinds: "Omm",
+        cut: "<?php |#|[",
+    },
+    Row {
+        kinds: "Oc",
+        cut: "<?php |// ",
+    },
+    Row {
+        kinds: "Oc",
+        cut: "<?php |/**",
+    },
+    Row {
+        kinds: "OQ",
+        cut: "<?php |'a",
+    },
+    Row {
+        kinds: "OQ",
+        cut: "<?php |'a\\'b",
+    },
+    Row {
+        kinds: "OQ",
+        cut: "<?php |'a\\'b'",
+    },
+    Row {
+        kinds: "OQ",
+        cut: "<?php |\"{$",
+    },
+    Row {
+        kinds: "OQ",
+        cut: "<?php |\"{$a",
+    },
+    Row {
+        kinds: "OQ",
+        cut: "<?php |\"{$a}",
+    },
+    Row {
+        kinds: "OQ",
+        cut: "<?php |\"${a",
+    },
+    Row {
+        kinds: "OQ",
+        cut: "<?php |\"${a}",
+    },
+    Row {
+        kinds: "OQ",
+        cut: "<?php |`",
+    },
+    Row {
+        kinds: "OQ",
+        cut: "<?php |`a",
+    },
+    Row {
+        kinds: "OQ",
+        cut: "<?php |`a\\",
+    },
+    Row {
+        kinds: "OQ",
+        cut: "<?php |`a\\`",
+    },
+    Row {
+        kinds: "OQ",
+        cut: "<?php |`a\\``",
+    },
+    Row {
+        kinds: "Om",
+        cut: "<?php |<",
+    },
+    Row {
+        kinds: "Ommm",
+        cut: "<?php |<|<|<",
+    },
+    Row {
+        kinds: "OmmmB",
+        cut: "<?php |<|<|<| \t",
+    },
+    Row {
+        kinds: "OmmmBQ",
+        cut: "<?php |<|<|<| \t|\"",
+    },
+    Row {
+        kinds: "OmmmBQ",
+        cut: "<?php |<|<|<| \t|\"X",
+    },
+    Row {
+        kinds: "OmmmBQ",
+        cut: "<?php |<|<|<| \t|\"X\"",
+    },
+    Row {
+        kinds: "OQ",
+        cut: "<?php |<<< \t\"X\"\r",
+    },
+    Row {
+        kinds: "OQ",
+        cut: "<?php |<<< \t\"X\"\r\n",
+    },
+    Row {
+        kinds: "OQ",
+        cut: "<?php |<<< \t\"X\"\r\n\t",
+    },
+    Row {
+        kinds: "OQ",
+        cut: "<?php |<<< \t\"X\"\r\n\tX",
+    },
+    Row {
+        kinds: "OQm",
+        cut: "<?php |<<< \t\"X\"\r\n\tX|;",
+    },
+    Row {
+        kinds: "OmmmQ",
+        cut: "<?php |<|<|<|'",
+    },
+    Row {
+        kinds: "OmmmQ",
+        cut: "<?php |<|<|<|'X",
+    },
+    Row {
+        kinds: "OmmmQ",
+        cut: "<?php |<|<|<|'X'",
+    },
+    Row {
+        kinds: "OQ",
+        cut: "<?php |<<<'X'\r\n",
+    },
+    Row {
+        kinds: "OQ",
+        cut: "<?php |<<<'X'\r\nX",
+    },
+    Row {
+        kinds: "OQm",
+        cut: "<?php |<<<'X'\rXa\rX_\r X|;",
+    },
+    Row {
+        kinds: "OQ",
+        cut: "<?php |<<<X\n{",
+    },
+    Row {
+        kinds: "OQ",
+        cut: "<?php |<<<X\n{$",
+    },
+    Row {
+        kinds: "OQ",
+        cut: "<?php |<<<X\n{$a",
+    },
+    Row {
+        kinds: "OQ",
+        cut: "<?php |<<<X\n{$a}",
+    },
+    Row {
+        kinds: "OQ",
+        cut: "<?php |<<<X\n{$a}\n",
+    },
+    Row {
+        kinds: "OQ",
+        cut: "<?php |<<<X\n{$a}\nX",
+    },
+    Row {
+        kinds: "Om",
+        cut: "<?php |$",
+    },
+    Row {
+        kinds: "Om",
+        cut: "<?php |\\",
+    },
+    Row {
+        kinds: "Oqm",
+        cut: "<?php |\\A|\\",
+    },
+    Row {
+        kinds: "Oq",
+        cut: "<?php |\\A\\B",
+    },
+    Row {
+        kinds: "ON",
+        cut: "<?php |1",
+    },
+    Row {
+        kinds: "Om",
+        cut: "<?php |:",
+    },
+    Row {
+        kinds: "OM",
+        cut: "<?php |::",
+    },
+    Row {
+        kinds: "Om",
+        cut: "<?php |-",
+    },
+    Row {
+        kinds: "OM",
+        cut: "<?php |->",
+    },
+    Row {
+        kinds: "Omm",
+        cut: "<?php |?|-",
+    },
+    Row {
+        kinds: "OM",
+        cut: "<?php |?->",
     },
     // the whole example
     Row {
