@@ -1,6 +1,6 @@
 -- What blanks, comments and lone identifiers begin with, and what stands behind a lone identifier that declares.
-use Rattle.std.proofs.Common.{◌≡◌, ℕ, Bool, true, false, ◌&&◌, ◌||◌, ◌==◌, List, [], ◌∷◌, ◌++◌, drop, Option, Some, None, refl, sym, ap, ◌∙◌}
-use Rattle.std.specs.Prelude.{not, codes, if◌then◌else◌}
+use Rattle.std.proofs.Common.{◌≡◌, ℕ, Bool, true, false, ◌&&◌, ◌||◌, ◌==◌, List, [], ◌∷◌, drop, Option, Some, None, refl, ap, ◌∙◌}
+use Rattle.std.specs.Prelude.{codes, if◌then◌else◌}
 use Rattle.path_name.specs.Bytes.{is_blank, is_digit, starts_identifier, continues_identifier}
 use Rattle.php_lex.specs.declared.lexeme.LexKind.{LexKind}
 use Rattle.php_lex.specs.declared.lexeme.LexKind.TheVariants as kinds
@@ -8,9 +8,9 @@ use Rattle.php_lex.specs.Places.{begins_with, has_first, after_run}
 use Rattle.php_lex.specs.Comments.{is_close_tag, comment}
 use Rattle.php_lex.specs.Quotes.{Opened, quoted}
 use Rattle.php_lex.specs.Lexemes.{Taken, Whole, Opening, joins, after_name, named, sign, word, comment_or, quoted_or, taken}
-use Rattle.php_lex.specs.Cut.{Lex, First, open_tag, html, whole, closed, unclosed, IsCutFrom, end, next}
+use Rattle.php_lex.specs.Cut.{Lex, First, whole, closed, unclosed, IsCutFrom, end, next}
 use Rattle.php_lex.proofs.Wholes.{starts_run}
-use Rattle.php_decl.specs.Declarations.{is_skipped, solid, is_identifier, identifier_of}
+use Rattle.php_decl.specs.Declarations.{is_skipped, solid, identifier_of}
 use Rattle.php_decl.specs.Quiet.{is_gap}
 
 -- ---- blanks and comments begin with a gap's bytes

@@ -1,16 +1,15 @@
 -- Where no declaring word can stand, nothing is declared.
-use Rattle.std.proofs.Common.{◌≡◌, ℕ, ◌+◌, ◌<◌, Bool, true, false, ◌&&◌, ◌||◌, List, [], ◌∷◌, ◌++◌, length, take, drop, Option, Some, None, refl, sym, ap, subst, ◌∙◌}
+use Rattle.std.proofs.Common.{◌≡◌, ℕ, ◌+◌, Bool, true, false, ◌&&◌, ◌||◌, List, [], ◌∷◌, ◌++◌, length, take, drop, Option, Some, None, refl, sym, ap, ◌∙◌}
 use Rattle.std.specs.Prelude.{not, codes, if◌then◌else◌}
 use Rattle.std.specs.Cmp.Lexicographic.{bytes_decides}
 use Rattle.std.proofs.lemmas.List.{take_at, drop_at, drop-drop, length-map}
-use Rattle.path_name.specs.Bytes.{lower, lowered, continues_identifier}
-use Rattle.path_name.specs.Orders.{bytes_are_equal}
+use Rattle.path_name.specs.Bytes.{lower, lowered}
 use Rattle.php_lex.specs.declared.lexeme.LexKind.{LexKind}
 use Rattle.php_lex.specs.declared.lexeme.LexKind.TheVariants as kinds
 use Rattle.php_lex.specs.Places.{has_first}
 use Rattle.php_lex.specs.Lexemes.{Whole, taken}
 use Rattle.php_lex.specs.Cut.{Lex, First, open_tag, html, whole, closed, unclosed, is_code_after, IsCutFrom, end, next}
-use Rattle.php_decl.specs.Declarations.{is_skipped, is_plain, solid, Stand, stands_after, follows_member, is_keyword, is_declaring, identifier_of, declared_by, namespace_after, is_halted_after, in_namespace, declared_at, declared_from}
+use Rattle.php_decl.specs.Declarations.{is_skipped, solid, Stand, stands_after, follows_member, is_keyword, is_declaring, identifier_of, declared_by, namespace_after, is_halted_after, in_namespace, declared_at, declared_from}
 use Rattle.php_decl.specs.Words.{equals_word}
 use Rattle.php_decl.specs.Quiet.{is_gap, stands_at, can_declare, IsQuiet}
 use Rattle.php_decl.proofs.Solids.{solid_skips, solid_keeps}

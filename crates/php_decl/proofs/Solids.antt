@@ -1,9 +1,9 @@
 -- Lexemes without blanks and comments.
-use Rattle.std.proofs.Common.{◌≡◌, ℕ, Bool, true, false, ◌&&◌, List, [], ◌∷◌, Option, Some, None, ◌∙◌, ap, sym, refl, length, drop, ◌+◌}
+use Rattle.std.proofs.Common.{◌≡◌, ℕ, true, false, ◌&&◌, List, [], ◌∷◌, Some, None, ◌∙◌, ap, sym, refl, length, drop}
 use Rattle.std.proofs.lemmas.List.{drop_at, drop-drop}
 use Rattle.php_lex.specs.declared.lexeme.LexKind.{LexKind}
-use Rattle.php_lex.specs.Cut.{Lex, Standing, Takes, IsCutFrom, IsCutOf}
-use Rattle.php_lex.proofs.OneCut.{cut_off, one_cut, cut_end}
+use Rattle.php_lex.specs.Cut.{Lex, Standing, Takes, IsCutOf}
+use Rattle.php_lex.proofs.OneCut.{one_cut, cut_end}
 use Rattle.php_decl.specs.Declarations.{is_skipped, solid, is_identifier, identifier_of, is_sign, is_relative_name, ends_name, namespace_of}
 
 pub solid_skips : (x : Lex) (xs : List Lex) → is_skipped x.kind ≡ true → solid (x ∷ xs) ≡ solid xs

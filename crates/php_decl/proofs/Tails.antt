@@ -7,7 +7,7 @@ use Rattle.path_name.specs.Bytes.{lower, lowered}
 use Rattle.php_lex.specs.Places.{has_first}
 use Rattle.php_lex.proofs.Firsts.{first_byte}
 use Rattle.php_decl.specs.Words.{equals_word}
-use Rattle.php_decl.specs.Quiet.{is_gap, stands_at, can_declare, IsQuiet, is_tail, tail_at, NotEnding, NoneEnds}
+use Rattle.php_decl.specs.Quiet.{is_gap, stands_at, can_declare, IsQuiet, tail_at, NotEnding, NoneEnds}
 
 not_true : (b : Bool) → (b ≡ true → ⊥) → b ≡ false
 not_true true h = absurd (h refl)

@@ -1,17 +1,16 @@
 -- What a lexeme does where it stands.
-use Rattle.std.proofs.Common.{◌≡◌, ℕ, Bool, true, false, ◌&&◌, ◌||◌, List, [], ◌∷◌, ◌++◌, length, Option, Some, None, ◌∙◌, sym, ap, subst, refl, append_assoc}
-use Rattle.std.specs.Prelude.{not, codes}
+use Rattle.std.proofs.Common.{◌≡◌, ℕ, Bool, true, false, ◌&&◌, ◌||◌, List, [], ◌∷◌, ◌++◌, Option, Some, None, ◌∙◌, sym, ap, refl, append_assoc}
+use Rattle.std.specs.Prelude.{codes}
 use Rattle.std.specs.Borrow.{Bor}
 use Rattle.std.specs.Cmp.Lexicographic.{bytes_decides}
 use Rattle.std.proofs.lemmas.List.{append-nil}
 use Rattle.path_name.specs.Bytes.{lowered}
 use Rattle.path_name.specs.Orders.{bytes_are_equal}
-use Rattle.php_lex.specs.declared.lexeme.LexKind.{LexKind}
 use Rattle.php_lex.specs.Cut.{Lex, Standing, IsCut, IsCutOf, start_of}
-use Rattle.php_decl.specs.Declarations.{is_plain, is_member, solid, Stand, stands, stands_after, follows_member, is_keyword, is_declaring, identifier_of, declared_by, namespace_of, namespace_by, is_halting, or_earlier, namespace_after, is_halted_after, in_namespace, declared_at, declared_from, names_of}
+use Rattle.php_decl.specs.Declarations.{is_plain, is_member, solid, Stand, stands, stands_after, follows_member, is_keyword, is_declaring, identifier_of, declared_by, namespace_by, is_halting, or_earlier, namespace_after, is_halted_after, in_namespace, declared_at, declared_from, names_of}
 use Rattle.php_decl.specs.Quiet.{IsQuiet}
 use Rattle.php_decl.proofs.Silence.{silence}
-use Rattle.php_decl.specs.Words.{equals_word, is_declaring_word, NextSolid, Visits, Leads, Behind}
+use Rattle.php_decl.specs.Words.{equals_word, is_declaring_word, NextSolid, Visits, Behind}
 
 and_true : (b : Bool) → b && true ≡ b
 and_true true = refl

@@ -1,5 +1,5 @@
 -- The words that matter to declarations, and steps over lexemes, as the code takes them.
-use Rattle.std.specs.Prelude.{◌≡◌, ℕ, ◌<◌, Bool, true, false, ◌||◌, List, [], ◌∷◌, ◌++◌, length, drop, codes, Option, Some, None, map, if◌then◌else◌}
+use Rattle.std.specs.Prelude.{◌≡◌, ℕ, ◌<◌, Bool, true, false, ◌||◌, List, [], ◌∷◌, ◌++◌, length, drop, codes, Option, Some, None}
 use Rattle.std.specs.Borrow.{Bor}
 use Rattle.path_name.specs.Bytes.{lowered}
 use Rattle.path_name.specs.Orders.{bytes_are_equal}

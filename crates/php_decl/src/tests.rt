@@ -94,7 +94,7 @@ const ROWS: [Row; 62] = [
         names: "",
     },
     Row {
-        text: "<?php class A { const CLASS_ = 1; function class() {} function enum() {} }",
+        text: "<?php class A { const ENUM = 1, TRAIT = 2; function class() {} function enum() {} }",
         names: "A ",
     },
     Row {

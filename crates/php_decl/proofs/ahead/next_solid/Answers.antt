@@ -1,4 +1,4 @@
-use Rattle.std.proofs.Common.{◌≡◌, ◌<◌, ◌≤◌, ◌∷◌, length, ap, refl, sym, ◌∙◌, arith}
+use Rattle.std.proofs.Common.{ap, refl, sym, ◌∙◌, arith}
 use Rattle.php_lex.proofs.OneCut.{cut_off, shorter}
 use Rattle.php_decl.specs.Declarations.{solid}
 use Rattle.php_decl.proofs.Solids.{solid_skips, solid_keeps, no_lexemes, place_after}

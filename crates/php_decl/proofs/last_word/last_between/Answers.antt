@@ -1,4 +1,4 @@
-use Rattle.std.proofs.Common.{◌≡◌, ◌-◌, ℕ, subst, sym, inl, inr, arith}
+use Rattle.std.proofs.Common.{◌-◌, ℕ, subst, sym, inl, inr, arith}
 use Rattle.std.proofs.lemmas.Bool.{cases_eq}
 use Rattle.php_decl.specs.Quiet.{NoneEnds}
 use Rattle.php_decl.proofs.last_word.last_between.Goals as goal
