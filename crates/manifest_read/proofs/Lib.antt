@@ -1,0 +1,5 @@
+pub mod Gathering
+pub mod Forms
+pub mod Keeping
+pub mod Formed
+pub mod Tokens

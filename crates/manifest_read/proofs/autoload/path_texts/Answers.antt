@@ -1,0 +1,25 @@
+use Rattle.std.proofs.Common.{ℕ, ap, sym, ◌∙◌, Ok}
+use Rattle.std.proofs.lemmas.Result.{err_from_is_err_and}
+use Rattle.json_ordered.specs.JsonTree.{JsonTree}
+use Rattle.json_ordered.specs.Docs.{tree_of}
+use Rattle.manifest_read.specs.Pointers.{at_item}
+use Rattle.manifest_read.specs.Autoloads.{path_text_at, path_texts_at}
+use Rattle.manifest_read.proofs.Gathering.{numbered_step, numbered_stop, numbered_end}
+use Rattle.manifest_read.proofs.autoload.path_texts.Goals as goal
+
+pub returns-in_err-path_item : goal.returns-in_err-path_item
+unfolding path_texts_at
+returns-in_err-path_item c =
+    let p = err_from_is_err_and c.from_residual-in_err-path_item.result c.from_residual-in_err-path_item.ensures.1 in
+    rw (p.1, p.2) (λ ne. c.loop-i.invariant ∙ numbered_stop tree_of c.args.items.now c.loop-i.i c.index-items-i.result c.loop-i-test.true c.index-items-i.is
+    (λ (n : ℕ × JsonTree). path_text_at c.args.role c.args.starless (at_item c.args.at.now n.0) n.1) c.loop-i.paths.items c.in_err-path_item.field-0.0 (c.in_err-path_item.ensures ne))
+
+pub loop-i-preserved : goal.loop-i-preserved
+unfolding path_texts_at
+loop-i-preserved c = c.loop-i.invariant ∙ numbered_step tree_of c.args.items.now c.loop-i.i c.index-items-i.result c.loop-i-test.true c.index-items-i.is
+    (λ (n : ℕ × JsonTree). path_text_at c.args.role c.args.starless (at_item c.args.at.now n.0) n.1) c.loop-i.paths.items c.push.new.self.items c.in_ok-path_item.field-0 c.in_ok-path_item.ensures c.in_ok-push.ensures.items
+
+pub returns : goal.returns
+unfolding path_texts_at
+returns c = c.loop-i.invariant ∙ numbered_end tree_of c.args.items.now c.loop-i.i c.loop-i-test.false (λ (n : ℕ × JsonTree). path_text_at c.args.role c.args.starless (at_item c.args.at.now n.0) n.1) c.loop-i.paths.items
+    ∙ ap Ok (sym c.of.ensures)

@@ -1,0 +1,12 @@
+pub mod Keys
+pub mod Pointers
+pub mod Values
+pub mod Names
+pub mod Versions
+pub mod Links
+pub mod Autoloads
+pub mod Repositories
+pub mod Settings
+pub mod Packages
+pub mod Manifests
+pub mod WellFormed
