@@ -93,8 +93,8 @@ unfoldable pub torn_changes : Option (List ℕ) → List Change → List Change
 torn_changes torn [] = []
 torn_changes torn (latest ∷ earlier) = torn_change torn latest ∷ torn_changes torn earlier
 
--- The image of a disk that the first so many of its pending changes make, with these bytes in each file that one of
--- them wrote, wherever a later one of them took it.
+-- The image of a disk that the first so many of its pending changes make, with these bytes, if any are given, in each
+-- file that one of them wrote, wherever a later one of them took it.
 unfoldable pub crashed : Disk → ℕ → Option (List ℕ) → FileTree
 crashed d applied torn = made d.base (torn_changes torn (drop (length d.pending - applied) d.pending))
 

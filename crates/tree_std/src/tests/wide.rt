@@ -63,3 +63,16 @@ fn names_that_are_none(rt: HostRuntime) -> Result<(), Fail> {
     assert!(rt; tree.make_dir(&long).is_err());
     Ok(())
 }
+
+#[test]
+fn a_path_that_is_too_long_as_a_whole(rt: HostRuntime) -> Result<(), Fail> {
+    let alloc = rt.alloc();
+    let text = vec![in alloc; b'x'; 4_096]?;
+    let long = Path::read(alloc, text.as_slice())?;
+    let mut tree = FolderTree::new(&rt);
+    assert!(rt; tree.stat(&long).is_err());
+    assert!(rt; tree.read(alloc, &long, 9).is_err());
+    assert!(rt; tree.list(alloc, &long, 9).is_err());
+    assert!(rt; tree.write(&long, b"x").is_err());
+    Ok(())
+}
