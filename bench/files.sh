@@ -9,7 +9,7 @@ trap 'rm -rf "$work"' EXIT
 mkdir -p "$work/repo/crates/files_bench/src" "$work/here"
 for crate in path_name tree_dev tree_std; do
     mkdir "$work/repo/crates/$crate"
-    for part in src specs proofs; do cp -r "$top/crates/$crate/$part" "$work/repo/crates/$crate/"; done
+    for part in src specs proofs out; do [ ! -d "$top/crates/$crate/$part" ] || cp -r "$top/crates/$crate/$part" "$work/repo/crates/$crate/"; done
 done
 { grep -E '^(path_name|tree_dev|tree_std):' "$top/crates.txt"; echo 'files_bench: path_name tree_dev tree_std'; } > "$work/repo/crates.txt"
 cat > "$work/repo/crates/files_bench/src/main.rt" <<'RT'
