@@ -3,10 +3,13 @@
 # they print the same form, and PHP's and python3's MD5, the value in memory, freeing included.
 # Usage: bench/json_print.sh [build], with the kit's `rt`, python3 and, if there is one, php on the PATH.
 . "$(dirname "$0")/head.sh"
-print=$(program json_print 'json_ordered content_hash' path_name json_ordered content_hash <<'RT'
+print=$(program json_print 'json_ordered content_hash path_name' path_name json_ordered content_hash <<'RT'
 // Reads JSON from standard input, and three times prints it in both forms and takes its content hash; writes the
 // microseconds and the length of the text.
 #![tactic(auto)]
+
+ghost use Rattle.json_ordered.specs.JsonTree.{HasUtf8Texts};
+ghost use Rattle.json_ordered.specs.Docs.{tree_of};
 
 use content_hash::{content_hash, hashed_text};
 use json_ordered::{Doc, print_hash_form, print_pretty, read};
@@ -23,7 +26,9 @@ fn len(text: &Result<Text, AllocError>) -> usize {
     }
 }
 
-fn rounds(rt: &HostRuntime, doc: &Doc) -> io::Result<()> {
+fn rounds(rt: &HostRuntime, doc: &Doc) -> io::Result<()>
+    requires { HasUtf8Texts (tree_of doc.now) }
+{
     for _round in 0..3u8 {
         let start = Instant::now(rt)?;
         let text = print_pretty(rt.alloc(), doc);
