@@ -7,7 +7,7 @@ set -eu
 top=$(cd "$(dirname "$0")/.." && pwd)
 work=$(mktemp -d)
 trap 'rm -rf "$work"' EXIT
-mkdir -p "$work/repo/crates/table_again/src" "$work/repo/crates/table_again/proofs/again"
+mkdir -p "$work/repo/crates/table_again/src"
 for crate in path_name table_scan table_print; do cp -r "$top/crates/$crate" "$work/repo/crates/"; done
 { grep -E '^(path_name|table_scan|table_print):' "$top/crates.txt"; echo 'table_again: path_name table_scan table_print'; } > "$work/repo/crates.txt"
 cat > "$work/repo/crates/table_again/src/main.rt" <<'RT'
@@ -19,7 +19,7 @@ use path_name::{Path, Text};
 use std::alloc::{AllocError, Global};
 use std::io;
 use std::io::{Read, Write};
-use table_print::{autoload_text, lie_below, print, read_keys_are_distinct};
+use table_print::{autoload_text, lie_below, print};
 use table_scan::{TableTexts, read};
 
 fn texts(alloc: Global, kind: u8, bytes: &[u8]) -> Result<TableTexts, AllocError> {
@@ -63,7 +63,6 @@ fn again(
             if !lie_below(&tables, project) {
                 return Ok(None);
             }
-            read_keys_are_distinct();
             Ok(Some(print(alloc, &tables, project)?))
         }
     }
@@ -90,12 +89,6 @@ fn main(rt: HostRuntime) -> io::Result<()> {
     Ok(())
 }
 RT
-cat > "$work/repo/crates/table_again/proofs/again/Answers.antt" <<'ANTT'
-use Rattle.table_again.proofs.again.Goals as goal
-
-pub print-requires-clause-distinct : goal.print-requires-clause-distinct
-print-requires-clause-distinct c = c.read_keys_are_distinct.ensures c.args.project.now c.args.texts.now c.in-Ok.tables c.in-Ok.ensures.exact
-ANTT
 (cd "$work/repo" && git init -q . && cd crates/table_again && rt run < /dev/null > "$work/build.log" 2>&1) || { tail "$work/build.log"; exit 1; }
 again="$work/repo/crates/table_again/out/table_again"
 mkdir "$work/site"

@@ -2,7 +2,7 @@
 use Rattle.std.proofs.Common.{◌≡◌, ℕ, zero, suc, ◌<◌, ◌≤◌, true, false, List, [], ◌∷◌, ◌++◌, length, get_or, take, drop, refl, sym, ap, ◌∙◌, append_assoc, arith}
 use Rattle.std.proofs.lemmas.List.{append-nil}
 use Rattle.table_scan.specs.TableTokens.{is_special}
-use Rattle.table_print.specs.TablePrinting.{escaped, closed}
+use Rattle.table_scan.specs.QuotedTexts.{escaped, closed}
 use Rattle.table_print.specs.Parts.{StartsSpecial}
 
 pub escaped_run : (text : List ℕ) (n : ℕ) → n ≤ length text → ((k : ℕ) → k < n → is_special (get_or text k 0) ≡ false) → escaped text ≡ take n text ++ escaped (drop n text)

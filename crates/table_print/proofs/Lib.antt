@@ -1,11 +1,8 @@
 pub mod Escapes
 pub mod Loops
 pub mod Outside
-pub mod TokenKinds
 pub mod Words
 pub mod PathTexts
 pub mod RowTexts
 pub mod TableTexts
-pub mod Distinct
-pub mod KeptKeys
 pub mod Printed

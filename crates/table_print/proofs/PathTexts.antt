@@ -13,8 +13,9 @@ use Rattle.table_scan.specs.declared.mark.Mark.TheVariants as marks
 use Rattle.table_scan.specs.TableTokens.{Token, Marked, Quoted, spelling}
 use Rattle.table_scan.specs.TableGrammar.{vendor_name, IsPath as IsPathOf, in_vendor, in_project}
 use Rattle.table_scan.proofs.Cases.{by_test}
-use Rattle.table_print.specs.TablePrinting.{closed, vendor_start, base_start, expression_of, path_expression}
-use Rattle.table_print.proofs.TokenKinds.{kinds, at_quoted}
+use Rattle.table_scan.specs.QuotedTexts.{closed}
+use Rattle.table_print.specs.TablePrinting.{vendor_start, base_start, expression_of, path_expression}
+use Rattle.table_scan.proofs.TokenKinds.{kinds, at_quoted}
 use Rattle.table_print.proofs.Words.{Word, Sign, Blank, at_words}
 
 -- ---- which expression a path has

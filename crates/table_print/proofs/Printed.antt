@@ -14,9 +14,9 @@ use Rattle.table_scan.specs.TableGrammar.{is_whole, is_any}
 use Rattle.table_scan.specs.TableFaults.{file_row, prefix_of, class_of, HoldsPrefixes, HoldsClasses, HoldsFiles, HoldsState, IsTableText}
 use Rattle.table_print.specs.TablePrinting.{prefix_table_text, class_table_text, file_table_text, state_text, printed}
 use Rattle.table_print.specs.Printable.{HasFoldersBelow, HasClassBelow, HasFileBelow, AreBelow}
-use Rattle.table_print.specs.DistinctKeys.{id_of, AreDistinct, HaveDistinctKeys}
+use Rattle.table_scan.specs.DistinctKeys.{id_of, AreDistinct, HaveDistinctKeys}
 use Rattle.table_print.specs.Parts.{HasSegments, HasClassSegments, HasFileSegments, HaveSegments}
-use Rattle.table_print.proofs.Distinct.{distinct_are_last}
+use Rattle.table_scan.proofs.Distinct.{distinct_are_last}
 use Rattle.table_print.proofs.TableTexts.{class_of_file, prefix_text_is, class_text_is, file_text_is}
 
 prefixes_hold : (project : List (List ℕ)) (allowed : List ℕ → Bool) (file : TableFile) (rows : List PrefixRow) → All (λ row. IsTrue (allowed row.prefix)) rows → AreDistinct (map prefix_of rows) → All (HasFoldersBelow project) rows → All HasSegments rows

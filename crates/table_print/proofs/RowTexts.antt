@@ -5,9 +5,10 @@ use Rattle.path_name.specs.Paths.{IsPath}
 use Rattle.table_scan.specs.declared.mark.Mark.TheVariants as marks
 use Rattle.table_scan.specs.TableTokens.{Token, Marked, Quoted, spelling}
 use Rattle.table_scan.specs.TableGrammar.{IsPath as IsPathOf, IsList, no_items, last_item, next_item, IsFolders, IsRow}
-use Rattle.table_print.specs.TablePrinting.{closed, row_start, row_arrow, row_end, folders_start, folders_between, folders_end, path_expression, folders_text, row_text}
+use Rattle.table_scan.specs.QuotedTexts.{closed}
+use Rattle.table_print.specs.TablePrinting.{row_start, row_arrow, row_end, folders_start, folders_between, folders_end, path_expression, folders_text, row_text}
 use Rattle.table_print.specs.Printable.{IsBelow}
-use Rattle.table_print.proofs.TokenKinds.{kinds, at_quoted}
+use Rattle.table_scan.proofs.TokenKinds.{kinds, at_quoted}
 use Rattle.table_print.proofs.Words.{Word, Sign, Blank, at_words}
 use Rattle.table_print.proofs.PathTexts.{IsRead, path_is_read}
 

@@ -1,7 +1,8 @@
 -- Whole texts of tables and of the state: they are read as they were printed.
-use Rattle.std.proofs.Common.{◌≡◌, ℕ, ◌<◌, ◌^◌, Bool, List, [], ◌∷◌, ◌++◌, map, All, refl, ap, ◌∙◌, append_assoc, inl, inr}
+use Rattle.std.proofs.Common.{◌≡◌, ℕ, ◌<◌, ◌^◌, Bool, List, [], ◌∷◌, ◌++◌, map, All, refl, ap, ◌∙◌, append_assoc, inl, inr, arith}
 use Rattle.std.specs.Prelude.{IsTrue}
 use Rattle.std.specs.List.{flat_map}
+use Rattle.std.proofs.lemmas.Fmt.{length-decimal-le}
 use Rattle.std.proofs.lemmas.List.Elements.{All-head, All-tail}
 use Rattle.path_name.specs.Decimals.{decimal_text}
 use Rattle.path_name.proofs.DecimalTexts.{number_in-decimal_text}
@@ -15,11 +16,14 @@ use Rattle.table_scan.specs.declared.types.TableFile.TheVariants as files
 use Rattle.table_scan.specs.TableTokens.{Token, Marked, Quoted, Number, Gap, spelling, piece_at, text_tokens, behind_tag}
 use Rattle.table_scan.specs.TableGrammar.{IsPath as IsPathOf, IsList, IsFolders, IsRow, IsTable, IsState, is_any, marked, before_folder, this_folder, behind_folder, mode_key, generation_key, mode_text}
 use Rattle.table_scan.specs.TableFaults.{prefix_row, class_row, token_list, ArePrefixRows, AreClassRows, IsTextOf}
+use Rattle.table_scan.proofs.Spelled.{few_digits}
 use Rattle.table_scan.proofs.Tokens.{tokens-nil}
-use Rattle.table_print.specs.TablePrinting.{quoted, table_name, tag_text, generated_text, variables_text, array_text, end_text, row_arrow, row_end, row_text, prefix_row_text, class_row_text, file_row_text, opening, table_text, prefix_table_text, class_table_text, file_table_text, state_text}
+use Rattle.table_scan.specs.QuotedTexts.{quoted}
+use Rattle.table_scan.specs.TableNames.{table_name}
+use Rattle.table_print.specs.TablePrinting.{tag_text, generated_text, variables_text, array_text, end_text, row_arrow, row_end, row_text, prefix_row_text, class_row_text, file_row_text, opening, table_text, prefix_table_text, class_table_text, file_table_text, state_text}
 use Rattle.table_print.specs.Printable.{HasFoldersBelow, HasClassBelow, HasFileBelow}
 use Rattle.table_print.specs.Parts.{HasSegments, HasClassSegments, HasFileSegments}
-use Rattle.table_print.proofs.TokenKinds.{kinds, over_gap, over_blank, at_quoted, at_number}
+use Rattle.table_scan.proofs.TokenKinds.{kinds, over_gap, over_blank, at_quoted, at_number}
 use Rattle.table_print.proofs.Words.{Word, Sign, Blank, Equals, at_words}
 use Rattle.table_print.proofs.PathTexts.{IsRead, path_is_read}
 use Rattle.table_print.proofs.RowTexts.{folders_value, key_is_read, arrow_is_read, end_is_read, row_parts, row_kinds, row_before, no_rows}
@@ -136,7 +140,7 @@ pub state_text_is : (state : State) → state.generation < 2 ^ 64 → IsTextOf I
 state_text_is state h = record {
   digits = decimal_text state.generation;
   comma = Marked marks.Comma ∷ [];
-  number = number_in-decimal_text state.generation h;
+  number = few_digits (decimal_text state.generation) (length-decimal-le 20 state.generation (omega arith) (omega arith) h) ∙ number_in-decimal_text state.generation h;
   is_comma = inr refl;
   parts = opening_is_read files.State (array_text ++ (row_text mode_key (quoted (mode_text state.mode)) ++ (row_text generation_key (decimal_text state.generation) ++ end_text)))
       ∙ ap (λ ts. Marked marks.Tag ∷ ts) (array_is_read (row_text mode_key (quoted (mode_text state.mode)) ++ (row_text generation_key (decimal_text state.generation) ++ end_text))

@@ -4,7 +4,7 @@ use Rattle.path_name.specs.Bytes.{is_blank}
 use Rattle.table_scan.specs.declared.mark.Mark.{Mark}
 use Rattle.table_scan.specs.declared.mark.Mark.TheVariants as marks
 use Rattle.table_scan.specs.TableTokens.{Token, Marked, spelling}
-use Rattle.table_print.proofs.TokenKinds.{kinds, over_blank, IsCommon, at_mark, at_assign}
+use Rattle.table_scan.proofs.TokenKinds.{kinds, over_blank, IsCommon, at_mark, at_assign}
 
 -- a mark, a blank, or `=` and a blank
 pub data Word : Type 0 where

@@ -1,5 +1,4 @@
 pub mod TablePrinting
 pub mod Printable
-pub mod DistinctKeys
 pub mod Parts
 pub mod AutoloadText

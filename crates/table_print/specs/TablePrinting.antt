@@ -12,31 +12,11 @@ use Rattle.table_scan.specs.declared.types.Tables.{Tables}
 use Rattle.table_scan.specs.declared.types.TableTexts.{TableTexts}
 use Rattle.table_scan.specs.declared.types.TableFile.{TableFile}
 use Rattle.table_scan.specs.declared.types.TableFile.TheVariants as files
-use Rattle.table_scan.specs.TableTokens.{is_special}
+use Rattle.table_scan.specs.QuotedTexts.{closed, quoted}
+use Rattle.table_scan.specs.TableNames.{table_name}
 use Rattle.table_scan.specs.TableGrammar.{vendor_name, mode_key, generation_key, mode_text}
 
--- ---- texts in single quotes
-
--- By the PHP manual's page on strings: `\` and `'` are preceded by `\`.
-abbrev pub escaped : List ℕ → List ℕ
-escaped [] = []
-escaped (byte ∷ bytes) = if is_special byte then 92 ∷ byte ∷ escaped bytes else byte ∷ escaped bytes
-
--- a quoted text behind its opening quote
-abbrev pub closed : List ℕ → List ℕ
-closed text = escaped text ++ 39 ∷ []
-
-abbrev pub quoted : List ℕ → List ℕ
-quoted text = 39 ∷ closed text
-
 -- ---- what does not depend on the rows
-
-unfoldable pub table_name : TableFile → List ℕ
-table_name files.Psr4 = codes "autoload_psr4.php"
-table_name files.Psr0 = codes "autoload_namespaces.php"
-table_name files.ClassMap = codes "autoload_classmap.php"
-table_name files.Files = codes "autoload_files.php"
-table_name files.State = codes "autoload_state.php"
 
 unfoldable pub tag_text : List ℕ
 tag_text = codes "<?php\n\n// "

@@ -3,7 +3,6 @@
 
 mod autoload;
 mod below;
-mod laws;
 mod parts;
 mod printing;
 mod quoted;
@@ -13,7 +12,6 @@ mod state;
 
 pub use autoload::autoload_text;
 pub use below::lie_below;
-pub use laws::read_keys_are_distinct;
 pub use printing::print;
 
 #[cfg(test)]

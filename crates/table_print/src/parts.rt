@@ -1,11 +1,11 @@
 //! The parts of a table's text that do not depend on its rows.
 
 ghost use Rattle.std.specs.Prelude.{◌≡◌, ◌++◌, OnOk};
-ghost use Rattle.table_print.specs.TablePrinting.{table_name, opening};
+ghost use Rattle.table_print.specs.TablePrinting.{opening};
 ghost use Rattle.table_print.specs.Parts.{part_text};
 
 use std::alloc::AllocError;
-use table_scan::TableFile;
+use table_scan::{TableFile, table_name};
 
 /// A part of a table's text.
 #[derive(Clone, Copy)]
@@ -67,20 +67,6 @@ pub fn add(out: &mut Vec<u8>, part: Part) -> Result<(), AllocError>
     ensures { OnOk result (out.new.items ≡ out.old.items ++ part_text part) }
 {
     out.extend_from_slice(bytes_of(part))
-}
-
-/// A table file's name.
-#[tactic(auto, unfolding(crate::specs::TablePrinting::table_name))]
-fn table_name(file: TableFile) -> &'static [u8]
-    ensures { result.now ≡ table_name file }
-{
-    match file {
-        TableFile::Psr4 => b"autoload_psr4.php",
-        TableFile::Psr0 => b"autoload_namespaces.php",
-        TableFile::ClassMap => b"autoload_classmap.php",
-        TableFile::Files => b"autoload_files.php",
-        TableFile::State => b"autoload_state.php",
-    }
 }
 
 /// Adds the first lines of a table file, up to the blank line behind its name. Its one refusal is want of

@@ -6,7 +6,7 @@ ghost use Rattle.table_scan.specs.TableGrammar.{is_whole};
 ghost use Rattle.table_scan.specs.TableFaults.{HoldsState, IsTableText, tables_of};
 ghost use Rattle.table_print.specs.TablePrinting.{prefix_table_text, class_table_text, file_table_text, state_text, printed};
 ghost use Rattle.table_print.specs.Printable.{HasFoldersBelow, HasClassBelow, HasFileBelow, AreBelow};
-ghost use Rattle.table_print.specs.DistinctKeys.{HaveDistinctKeys};
+ghost use Rattle.table_scan.specs.DistinctKeys.{HaveDistinctKeys};
 ghost use Rattle.table_print.specs.Parts.{table_start, HasSegments, HasClassSegments, HasFileSegments, HaveSegments};
 
 use crate::parts::{Part, add, add_opening};

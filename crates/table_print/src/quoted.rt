@@ -2,7 +2,7 @@
 
 ghost use Rattle.std.specs.Prelude.{◌≡◌, ◌++◌, ◌<◌, ◌≤◌, ℕ, false, true, length, slice_index, OnOk};
 ghost use Rattle.table_scan.specs.TableTokens.{is_special};
-ghost use Rattle.table_print.specs.TablePrinting.{escaped, closed};
+ghost use Rattle.table_scan.specs.QuotedTexts.{escaped, closed};
 ghost use Rattle.table_print.specs.Parts.{StartsSpecial};
 
 use memchr::memchr2;

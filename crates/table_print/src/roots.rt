@@ -3,7 +3,8 @@
 ghost use Rattle.std.specs.Prelude.{◌≡◌, ◌++◌, [], ◌∷◌, IfOk, OnOk};
 ghost use Rattle.path_name.specs.Paths.{IsPath, BeginsWith};
 ghost use Rattle.table_scan.specs.TableGrammar.{vendor_name};
-ghost use Rattle.table_print.specs.TablePrinting.{closed, path_expression};
+ghost use Rattle.table_scan.specs.QuotedTexts.{closed};
+ghost use Rattle.table_print.specs.TablePrinting.{path_expression};
 ghost use Rattle.table_print.specs.Parts.{part_text};
 
 use crate::parts::{Part, add};

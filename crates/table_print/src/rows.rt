@@ -2,7 +2,8 @@
 
 ghost use Rattle.std.specs.Prelude.{◌≡◌, ◌++◌, ◌∷◌, [], All, OnOk};
 ghost use Rattle.path_name.specs.Paths.{IsPath};
-ghost use Rattle.table_print.specs.TablePrinting.{closed, row_start, row_arrow, row_text, folders_text, path_expression, prefix_row_text};
+ghost use Rattle.table_scan.specs.QuotedTexts.{closed};
+ghost use Rattle.table_print.specs.TablePrinting.{row_start, row_arrow, row_text, folders_text, path_expression, prefix_row_text};
 ghost use Rattle.table_print.specs.Printable.{IsBelow, HasFoldersBelow};
 ghost use Rattle.table_print.specs.Parts.{separator, HasSegments};
 

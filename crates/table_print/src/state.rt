@@ -4,7 +4,8 @@ ghost use Rattle.std.specs.Prelude.{◌≡◌, ◌++◌, ◌<◌, ◌^◌, IfOk,
 ghost use Rattle.path_name.specs.Decimals.{decimal_text};
 ghost use Rattle.table_scan.specs.TableGrammar.{IsState, mode_text, mode_key, generation_key};
 ghost use Rattle.table_scan.specs.TableFaults.{IsTextOf};
-ghost use Rattle.table_print.specs.TablePrinting.{quoted, row_text, state_text};
+ghost use Rattle.table_scan.specs.QuotedTexts.{quoted};
+ghost use Rattle.table_print.specs.TablePrinting.{row_text, state_text};
 
 use crate::parts::{Part, add, add_opening};
 use crate::quoted::add_closed;

@@ -1,4 +1,4 @@
-use crate::{autoload_text, lie_below, print, read_keys_are_distinct};
+use crate::{autoload_text, lie_below, print};
 use path_name::{Path, Text};
 use std::alloc::Global;
 use std::process::Abort;
@@ -66,7 +66,6 @@ fn printed(alloc: Global, texts: &TableTexts, project: &Path) -> Result<Option<T
             if !lie_below(&tables, project) {
                 return Ok(None);
             }
-            read_keys_are_distinct();
             Ok(Some(print(alloc, &tables, project)?))
         }
     }

@@ -1,16 +1,23 @@
 -- Keys that rise or fall throughout are not repeated, and the place of a key.
-use Rattle.std.proofs.Common.{◌≡◌, ℕ, suc, ◌<◌, Bool, true, false, cond, List, [], ◌∷◌, ◌++◌, length, map, set, Option, Some, None, refl, sym, ap, ◌∙◌, append_assoc, arith}
+use Rattle.std.proofs.Common.{◌≡◌, ℕ, suc, ◌+◌, ◌<◌, ◌≤◌, Bool, true, false, cond, List, [], ◌∷◌, ◌++◌, length, map, get_or, set, take, Option, Some, None, refl, sym, ap, subst, ◌∙◌, arith}
 use Rattle.std.specs.Prelude.{◌&&◌}
+use Rattle.std.specs.Borrow.{Bor}
+use Rattle.std.specs.List.{AllByRecursion, IsDistinct}
+use Rattle.std.specs.List.Sorted.{IsPermutation}
 use Rattle.std.specs.Option.{option_map}
 use Rattle.std.specs.Cmp.Lexicographic.{bytes_decides}
 use Rattle.std.specs.declared.cmp.Ordering.{Ordering}
 use Rattle.std.specs.declared.cmp.Ordering.TheVariants.{Less, Equal, Greater}
 use Rattle.std.specs.Ordering.{ordering_reverse, is_eq}
-use Rattle.std.proofs.lemmas.Bool.{false_from_ne_true}
-use Rattle.std.proofs.lemmas.List.{append-nil}
+use Rattle.std.proofs.lemmas.Bool.{false≢true, false_from_ne_true}
+use Rattle.std.proofs.lemmas.List.{map-append, take_more, take_all}
+use Rattle.std.proofs.lemmas.List.Sorted.{IsPermutation-map, IsPermutation-sym}
+use Rattle.std.proofs.lemmas.Map.Keys.{IsDistinct-IsPermutation}
 use Rattle.path_name.specs.Orders.{byte_cmp, byte_cmp_total, bytes_are_equal, byte_ties}
 use Rattle.table_scan.proofs.Cases.{by_test}
 use Rattle.table_scan.specs.TableGrammar.{put, put_all, last_values}
+use Rattle.table_scan.specs.DistinctKeys.{AreDistinct}
+use Rattle.table_scan.proofs.Distinct.{distinct_are_last}
 use Rattle.table_scan.specs.Repeats.{is_order, are_strict_behind, are_strict, place_of}
 
 order_is : (a b : Ordering) → is_order a b ≡ true → a ≡ b
@@ -29,7 +36,7 @@ reversed_greater x y e = byte_cmp_total.antisymm y x ∙ ap ordering_reverse e
 reversed_less : (x y : List ℕ) → byte_cmp y x ≡ Less → byte_cmp x y ≡ Greater
 reversed_less x y e = byte_cmp_total.antisymm x y ∙ ap ordering_reverse e
 
-abbrev IsStrict : Ordering → Type 0
+abbrev pub IsStrict : Ordering → Type 0
 IsStrict Less = Unit {0}
 IsStrict Equal = ⊥
 IsStrict Greater = Unit {0}
@@ -52,36 +59,53 @@ apart order s x y e = false_from_ne_true (bytes_are_equal x y) (λ t. differ ord
     differ Equal s e = s
     differ Greater s e = absurd cc
 
-module _ {R : Type 0} (key : R → List ℕ) (order : Ordering) (strict : IsStrict order) where
-  -- the key stands so to that of each row
-  abbrev StandsTo : List R → List ℕ → Type 0
-  StandsTo [] k = Unit {0}
-  StandsTo (row ∷ rows) k = (byte_cmp (key row) k ≡ order) × StandsTo rows k
+-- each key stands so to all before it, so it is none of them
+strict_new : (order : Ordering) → IsStrict order → (key last : List ℕ) (keys : List (List ℕ)) → byte_cmp key last ≡ order → are_strict_behind order last keys ≡ true → AllByRecursion (λ other. bytes_are_equal key other ≡ false) keys
+strict_new order s key last [] e h = tt
+strict_new order s key last (next ∷ keys) e h =
+    let parts = and_parts (is_order (byte_cmp last next) order) (are_strict_behind order next keys) h in
+    let on : byte_cmp key next ≡ order = along order s key last next e (order_is (byte_cmp last next) order parts.0) in
+    (apart order s key next on, strict_new order s key next keys on parts.1)
 
-  stands_on : (rows : List R) (k next : List ℕ) → StandsTo rows k → byte_cmp k next ≡ order → StandsTo rows next
-  stands_on [] k next h e = tt
-  stands_on (row ∷ rows) k next h e = (along order strict (key row) k next h.0 e, stands_on rows k next h.1 e)
+strict_behind : (order : Ordering) → IsStrict order → (last : List ℕ) (keys : List (List ℕ)) → are_strict_behind order last keys ≡ true → AreDistinct (last ∷ keys)
+unfolding IsDistinct
+strict_behind order s last [] h = (tt, tt)
+strict_behind order s last (next ∷ keys) h =
+    let parts = and_parts (is_order (byte_cmp last next) order) (are_strict_behind order next keys) h in
+    let is : byte_cmp last next ≡ order = order_is (byte_cmp last next) order parts.0 in
+    ((apart order s last next is, strict_new order s last next keys is parts.1), strict_behind order s next keys parts.1)
 
-  stands_last : (rows : List R) (row : R) (k : List ℕ) → StandsTo rows k → byte_cmp (key row) k ≡ order → StandsTo (rows ++ row ∷ []) k
-  stands_last [] row k h e = (e, tt)
-  stands_last (first ∷ rows) row k h e = (h.0, stands_last rows row k h.1 e)
+pub strict_distinct : (order : Ordering) → IsStrict order → (keys : List (List ℕ)) → are_strict order keys ≡ true → AreDistinct keys
+unfolding IsDistinct
+strict_distinct order s [] h = tt
+strict_distinct order s (key ∷ keys) h = strict_behind order s key keys h
 
-  put_new : (rows : List R) (row : R) → StandsTo rows (key row) → put key rows row ≡ rows ++ row ∷ []
-  put_new [] row h = refl
-  put_new (first ∷ rows) row h = rw (apart order strict (key first) (key row) h.0) (ap (λ rs. first ∷ rs) (put_new rows row h.1))
+-- rows whose keys rise or fall throughout
+pub strict_keys : {R : Type 0} (key : R → List ℕ) (order : Ordering) → IsStrict order → (rows : List R) → are_strict order (map key rows) ≡ true → rows ≡ last_values key rows
+strict_keys key order s rows h = distinct_are_last key rows (strict_distinct order s (map key rows) h)
 
-  put_all_new : (done : List R) (last : R) (rows : List R) → StandsTo done (key last) → are_strict_behind order (key last) (map key rows) ≡ true → put_all key (done ++ last ∷ []) rows ≡ (done ++ last ∷ []) ++ rows
-  put_all_new done last [] h e = sym (append-nil (done ++ last ∷ []))
-  put_all_new done last (row ∷ rows) h e =
-      let parts = and_parts (is_order (byte_cmp (key last) (key row)) order) (are_strict_behind order (key row) (map key rows)) e in
-      let is : byte_cmp (key last) (key row) ≡ order = order_is (byte_cmp (key last) (key row)) order parts.0 in
-      let all : StandsTo (done ++ last ∷ []) (key row) = stands_last done last (key row) (stands_on done (key last) (key row) h is) is in
-      ap (λ rs. put_all key rs rows) (put_new (done ++ last ∷ []) row all) ∙ put_all_new (done ++ last ∷ []) row rows all parts.1 ∙ append_assoc (done ++ last ∷ []) (row ∷ []) rows
+equal_either_way : (x y : List ℕ) → bytes_are_equal x y ≡ bytes_are_equal y x
+equal_either_way x y = by_test (bytes_are_equal x y)
+    (λ b. by_test (bytes_are_equal y x) (λ d. b ∙ sym d) (λ d. absurd (false≢true (sym d ∙ (bytes_decides y x).1 (sym ((bytes_decides x y).0 b))))))
+    (λ b. by_test (bytes_are_equal y x) (λ d. absurd (false≢true (sym b ∙ (bytes_decides x y).1 (sym ((bytes_decides y x).0 d))))) (λ d. b ∙ sym d))
 
-  pub strict_keys : (rows : List R) → are_strict order (map key rows) ≡ true → rows ≡ last_values key rows
-  unfolding last_values
-  strict_keys [] e = refl
-  strict_keys (row ∷ rows) e = sym (put_all_new [] row rows tt e)
+-- keys of which some order rises throughout
+pub sorted_distinct : (keys sorted : List (Bor (List ℕ))) → IsPermutation keys sorted → are_strict Less (map (λ k. k.now) sorted) ≡ true → AreDistinct (map (λ k. k.now) keys)
+sorted_distinct keys sorted p h = IsDistinct-IsPermutation bytes_are_equal equal_either_way (map (λ k. k.now) sorted) (map (λ k. k.now) keys)
+    (IsPermutation-sym (map (λ k. k.now) keys) (map (λ k. k.now) sorted) (IsPermutation-map (λ k. k.now) keys sorted p)) (strict_distinct Less tt (map (λ k. k.now) sorted) h)
+
+-- one more key, in the words of a loop
+pub one_more_key : {R : Type 0} (key : R → List ℕ) (rows : List R) (i : ℕ) (row : R) (keys now : List (Bor (List ℕ))) (k : Bor (List ℕ)) → i < length rows → row ≡ get_or rows i row → k.now ≡ key row → now ≡ keys ++ k ∷ []
+    → map (λ k. k.now) keys ≡ map key (take i rows) → map (λ k. k.now) now ≡ map key (take (i + 1) rows)
+one_more_key key rows i row keys now k l is same has so_far =
+    ap (map (λ k. k.now)) has ∙ map-append (λ k. k.now) keys (k ∷ []) ∙ ap (λ ks. ks ++ k.now ∷ []) so_far ∙ ap (λ x. map key (take i rows) ++ x ∷ []) same
+    ∙ sym (ap (map key) (take_more rows i row l ∙ ap (λ y. take i rows ++ y ∷ []) (sym is)) ∙ map-append key (take i rows) (row ∷ []))
+
+-- all keys, sorted and found to rise
+pub keys_distinct : {R : Type 0} (key : R → List ℕ) (rows : List R) (i : ℕ) (keys sorted slice : List (Bor (List ℕ))) (rises : Bool) → length rows ≤ i → map (λ k. k.now) keys ≡ map key (take i rows) → IsPermutation keys sorted → slice ≡ sorted
+    → rises ≡ are_strict Less (map (λ k. k.now) slice) → rises ≡ true → AreDistinct (map key rows)
+keys_distinct key rows i keys sorted slice rises l all p is said e =
+    subst AreDistinct (all ∙ ap (map key) (take_all i rows l)) (sorted_distinct keys sorted p (sym (ap (λ s. are_strict Less (map (λ k. k.now) s)) is) ∙ sym said ∙ e))
 
 -- ---- rows put one by one
 

@@ -16,3 +16,7 @@ pub mod RowGrammar
 pub mod StateGrammar
 pub mod Meaning
 pub mod WholeRows
+pub mod TokenKinds
+pub mod Spelled
+pub mod Distinct
+pub mod KeptKeys

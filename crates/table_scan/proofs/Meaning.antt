@@ -1,5 +1,5 @@
 -- What the tables of texts and their faults are, in the words of the grammar.
-use Rattle.std.proofs.Common.{◌≡◌, ◌≢◌, ℕ, ◌-◌, Bool, List, [], ◌∷◌, ◌++◌, length, map, Option, Some, None, Result, Ok, Err, ◌⊎◌, inl, inr, refl, sym, ap, ◌∙◌}
+use Rattle.std.proofs.Common.{◌≡◌, ◌≢◌, ℕ, ◌-◌, Bool, List, [], ◌∷◌, ◌++◌, length, map, Option, Some, None, Result, Ok, Err, ◌⊎◌, inl, inr, refl, sym, ap, subst, ◌∙◌, append_assoc}
 use Rattle.std.specs.Prelude.{IfOk, IfErr}
 use Rattle.path_name.specs.Given.{◌>>=◌, Gives}
 use Rattle.table_scan.specs.declared.types.PrefixRow.{PrefixRow}
@@ -15,20 +15,21 @@ use Rattle.table_scan.specs.declared.types.TableFault.TheVariants as faults
 use Rattle.table_scan.specs.TableTokens.{Token, Placed, text_tokens}
 use Rattle.table_scan.specs.TableGrammar.{IsPath, IsFolders, IsState, is_whole, is_any, last_values}
 use Rattle.table_scan.specs.TableReading.{Outcome, Done, read_from, At_root, path_next, At_array, folders_next, table_next, table_start, state_next, state_start}
-use Rattle.table_scan.specs.TableFaults.{prefix_row, class_row, file_row, prefix_of, class_of, token_list, ArePrefixRows, AreClassRows, IsTextOf, HoldsPrefixes, HoldsClasses, HoldsFiles, HoldsState, IsTableText, Stops, IsFault, IsFaultIn, IsTableFault, placed, prefixes_of, classes_of, state_of, with_last_values, as_files, as_state, prefix_table, class_table, file_table, state_table, tables_of}
+use Rattle.table_scan.specs.TableFaults.{prefix_row, class_row, file_row, prefix_of, class_of, token_list, ArePrefixRows, AreClassRows, IsTextOf, HoldsPrefixes, HoldsClasses, HoldsFiles, HoldsState, IsTableText, IsSpelled, BeginsText, Stops, IsFault, IsFaultIn, IsTableFault, placed, prefixes_of, classes_of, state_of, with_last_values, as_files, as_state, prefix_table, class_table, file_table, state_table, tables_of}
 use Rattle.table_scan.specs.declared.stop.Stop.{Stop}
 use Rattle.table_scan.specs.declared.stop.Stop.TheVariants.{Bad, OutOfMemory}
 use Rattle.table_scan.specs.TableSteps.{Fails, fault_of}
 use Rattle.table_scan.proofs.Walks.{walk, Completes, read_is_walk, walk_is_read, StopsWalk, stuck}
 use Rattle.table_scan.proofs.PathGrammar.{path_walk, walk_path, path_completes, folders_walk, walk_folders, folders_complete}
 use Rattle.table_scan.proofs.RowGrammar.{table_is_walked, walk_is_table, table_completes}
+use Rattle.table_scan.proofs.Spelled.{prefixes_spelled, classes_spelled, state_spelled}
 use Rattle.table_scan.proofs.StateGrammar.{walk_is_state, state_is_walked, state_completes}
 
 -- ---- a kind of texts
 
 module _ {W V : Type 0} (next : W → Token → Outcome W V) (start : W) (IsKind : List Token → V → Type 0)
     (walked : (ks : List Token) (value : V) → IsKind ks value → walk next start ks ≡ Done value) (kinded : (ks : List Token) (value : V) → walk next start ks ≡ Done value → IsKind ks value)
-    (completes : (place : W) → Completes next place) where
+    (completes : (place : W) → Completes next place) (spelled : (ks : List Token) (value : V) → IsKind ks value → IsSpelled ks) where
   text_is_read : (text : List ℕ) (value : V) → IsTextOf IsKind text value → read_from next start (text_tokens text) ≡ Ok value
   text_is_read text value h = walk_is_read next start (text_tokens text) value (walked (token_list (text_tokens text)) value h)
 
@@ -37,12 +38,24 @@ module _ {W V : Type 0} (next : W → Token → Outcome W V) (start : W) (IsKind
 
   stops_kind : (before : List Token) (others : List Placed) → StopsWalk next start before others → Stops IsKind before others
   stops_kind before [] h = λ value is. h value (walked before value is)
-  stops_kind before (t ∷ ts) h = λ more value is. h more value (walked (before ++ t.token ∷ more) value is)
+  stops_kind before (t ∷ ts) h = λ b. h b.more b.value (walked (before ++ t.token ∷ b.more) b.value (subst (λ ks. IsKind ks b.value) (b.parts ∙ append_assoc before (t.token ∷ []) b.more) b.is))
+
+  begins_text : (before more : List Token) (value : V) → IsKind (before ++ more) value → BeginsText IsKind before
+  begins_text before more value h =
+      let s = spelled (before ++ more) value h in
+      record { text = s.0; value = value; more = more; is = subst (λ ks. IsKind ks value) (sym s.1) h; parts = s.1 }
 
   text_fault : (text : List ℕ) (left : ℕ) → read_from next start (text_tokens text) ≡ Err left → IsFault IsKind text (length text - left)
   text_fault text left e =
       let s = stuck next completes start (text_tokens text) left e in
-      record { before = s.before; others = s.others; more = s.more; value = s.value; parts = s.parts; place = ap (λ n. length text - n) s.at; begins = kinded (token_list s.before ++ s.more) s.value s.begins; stops = stops_kind (token_list s.before) s.others s.stops }
+      record {
+        before = s.before;
+        others = s.others;
+        parts = s.parts;
+        place = ap (λ n. length text - n) s.at;
+        begins = begins_text (token_list s.before) s.more s.value (kinded (token_list s.before ++ s.more) s.value s.begins);
+        stops = stops_kind (token_list s.before) s.others s.stops;
+      }
 
 -- ---- the three kinds
 
@@ -52,21 +65,21 @@ module _ (project : List (List ℕ)) (allowed : List ℕ → Bool) where
   prefixes_read = text_is_read (table_next allowed prefix_row At_array (folders_next project)) table_start (ArePrefixRows project allowed)
       (table_is_walked allowed prefix_row At_array (folders_next project) (IsFolders project) (folders_walk project) (walk_folders project) (folders_complete project))
       (walk_is_table allowed prefix_row At_array (folders_next project) (IsFolders project) (folders_walk project) (walk_folders project) (folders_complete project))
-      (table_completes allowed prefix_row At_array (folders_next project) (IsFolders project) (folders_walk project) (walk_folders project) (folders_complete project))
+      (table_completes allowed prefix_row At_array (folders_next project) (IsFolders project) (folders_walk project) (walk_folders project) (folders_complete project)) (prefixes_spelled project allowed)
 
   prefixes_are : (text : List ℕ) (rows : List PrefixRow) → prefixes_of project allowed text ≡ Ok rows → IsTextOf (ArePrefixRows project allowed) text rows
   unfolding prefixes_of
   prefixes_are = read_is_text (table_next allowed prefix_row At_array (folders_next project)) table_start (ArePrefixRows project allowed)
       (table_is_walked allowed prefix_row At_array (folders_next project) (IsFolders project) (folders_walk project) (walk_folders project) (folders_complete project))
       (walk_is_table allowed prefix_row At_array (folders_next project) (IsFolders project) (folders_walk project) (walk_folders project) (folders_complete project))
-      (table_completes allowed prefix_row At_array (folders_next project) (IsFolders project) (folders_walk project) (walk_folders project) (folders_complete project))
+      (table_completes allowed prefix_row At_array (folders_next project) (IsFolders project) (folders_walk project) (walk_folders project) (folders_complete project)) (prefixes_spelled project allowed)
 
   prefixes_fault : (text : List ℕ) (left : ℕ) → prefixes_of project allowed text ≡ Err left → IsFault (ArePrefixRows project allowed) text (length text - left)
   unfolding prefixes_of
   prefixes_fault = text_fault (table_next allowed prefix_row At_array (folders_next project)) table_start (ArePrefixRows project allowed)
       (table_is_walked allowed prefix_row At_array (folders_next project) (IsFolders project) (folders_walk project) (walk_folders project) (folders_complete project))
       (walk_is_table allowed prefix_row At_array (folders_next project) (IsFolders project) (folders_walk project) (walk_folders project) (folders_complete project))
-      (table_completes allowed prefix_row At_array (folders_next project) (IsFolders project) (folders_walk project) (walk_folders project) (folders_complete project))
+      (table_completes allowed prefix_row At_array (folders_next project) (IsFolders project) (folders_walk project) (walk_folders project) (folders_complete project)) (prefixes_spelled project allowed)
 
 module _ (project : List (List ℕ)) where
   one_path : (ks : List Token) (path : List (List ℕ)) → IsPath project ks path → walk (path_next project) At_root ks ≡ Done path
@@ -77,33 +90,33 @@ module _ (project : List (List ℕ)) where
   classes_read = text_is_read (table_next is_any class_row At_root (path_next project)) table_start (AreClassRows project)
       (table_is_walked is_any class_row At_root (path_next project) (IsPath project) one_path (walk_path project) (path_completes project))
       (walk_is_table is_any class_row At_root (path_next project) (IsPath project) one_path (walk_path project) (path_completes project))
-      (table_completes is_any class_row At_root (path_next project) (IsPath project) one_path (walk_path project) (path_completes project))
+      (table_completes is_any class_row At_root (path_next project) (IsPath project) one_path (walk_path project) (path_completes project)) (classes_spelled project)
 
   classes_are : (text : List ℕ) (rows : List ClassRow) → classes_of project text ≡ Ok rows → IsTextOf (AreClassRows project) text rows
   unfolding classes_of
   classes_are = read_is_text (table_next is_any class_row At_root (path_next project)) table_start (AreClassRows project)
       (table_is_walked is_any class_row At_root (path_next project) (IsPath project) one_path (walk_path project) (path_completes project))
       (walk_is_table is_any class_row At_root (path_next project) (IsPath project) one_path (walk_path project) (path_completes project))
-      (table_completes is_any class_row At_root (path_next project) (IsPath project) one_path (walk_path project) (path_completes project))
+      (table_completes is_any class_row At_root (path_next project) (IsPath project) one_path (walk_path project) (path_completes project)) (classes_spelled project)
 
   classes_fault : (text : List ℕ) (left : ℕ) → classes_of project text ≡ Err left → IsFault (AreClassRows project) text (length text - left)
   unfolding classes_of
   classes_fault = text_fault (table_next is_any class_row At_root (path_next project)) table_start (AreClassRows project)
       (table_is_walked is_any class_row At_root (path_next project) (IsPath project) one_path (walk_path project) (path_completes project))
       (walk_is_table is_any class_row At_root (path_next project) (IsPath project) one_path (walk_path project) (path_completes project))
-      (table_completes is_any class_row At_root (path_next project) (IsPath project) one_path (walk_path project) (path_completes project))
+      (table_completes is_any class_row At_root (path_next project) (IsPath project) one_path (walk_path project) (path_completes project)) (classes_spelled project)
 
 state_read : (text : List ℕ) (state : State) → IsTextOf IsState text state → state_of text ≡ Ok state
 unfolding state_of
-state_read = text_is_read state_next state_start IsState state_is_walked walk_is_state state_completes
+state_read = text_is_read state_next state_start IsState state_is_walked walk_is_state state_completes state_spelled
 
 state_is : (text : List ℕ) (state : State) → state_of text ≡ Ok state → IsTextOf IsState text state
 unfolding state_of
-state_is = read_is_text state_next state_start IsState state_is_walked walk_is_state state_completes
+state_is = read_is_text state_next state_start IsState state_is_walked walk_is_state state_completes state_spelled
 
 state_fault : (text : List ℕ) (left : ℕ) → state_of text ≡ Err left → IsFault IsState text (length text - left)
 unfolding state_of
-state_fault = text_fault state_next state_start IsState state_is_walked walk_is_state state_completes
+state_fault = text_fault state_next state_start IsState state_is_walked walk_is_state state_completes state_spelled
 
 -- ---- a table file
 

@@ -60,7 +60,7 @@ digits_end_at_most text len e h =
 digit_is_plain : (byte : ℕ) → is_digit byte ≡ true → (is_blank byte ≡ false) × (eqb byte 35 ≡ false) × (eqb byte 47 ≡ false) × (eqb byte 39 ≡ false)
 digit_is_plain byte d = (grind (arith, nat_tests), grind (arith, nat_tests), grind (arith, nat_tests), grind (arith, nat_tests))
 
-number_piece_at : (byte : ℕ) (rest : List ℕ) → is_digit byte ≡ true → piece_at (byte ∷ rest) ≡ number_piece (front_digits most_digits (byte ∷ rest))
+pub number_piece_at : (byte : ℕ) (rest : List ℕ) → is_digit byte ≡ true → piece_at (byte ∷ rest) ≡ number_piece (front_digits most_digits (byte ∷ rest))
 unfolding piece_at lexeme_at
 number_piece_at byte rest d = let p = digit_is_plain byte d in rw (p.0, p.1, p.2, p.3, d) refl
 

@@ -25,7 +25,7 @@ plain_tests byte h = by (eqb byte 92) (eqb byte 39) h
     by true t e = absurd cc
     by false t e = (refl, e)
 
-plain_step : (byte : ℕ) (rest : List ℕ) → is_special byte ≡ false → unquoted (byte ∷ rest) ≡ in_front (byte ∷ []) (unquoted rest)
+pub plain_step : (byte : ℕ) (rest : List ℕ) → is_special byte ≡ false → unquoted (byte ∷ rest) ≡ in_front (byte ∷ []) (unquoted rest)
 plain_step byte [] h = let t = plain_tests byte h in rw t.1 refl
 plain_step byte (next ∷ rest) h = let t = plain_tests byte h in rw (t.1, t.0) refl
 

@@ -8,7 +8,7 @@ use Rattle.table_scan.specs.declared.types.Mode.{Mode}
 use Rattle.table_scan.specs.declared.types.Mode.TheVariants.{Plain, Optimised, Authoritative}
 use Rattle.table_scan.specs.declared.types.State.{State}
 use Rattle.table_scan.specs.TableTokens.{Token, Marked, Quoted, Number}
-use Rattle.table_scan.specs.TableGrammar.{mode_text, IsLastComma, IsState}
+use Rattle.table_scan.specs.TableGrammar.{mode_text, generation_of, IsLastComma, IsState}
 use Rattle.table_scan.specs.TableReading.{Outcome, Next, Done, Wrong, is_wanted, StatePlace, Before_mode, Before_generation, After_generation, At_close, At_state_end, mode_of, before_mode, before_generation, mode_done, number_done, state_next, state_start}
 use Rattle.table_scan.proofs.Cases.{by_test}
 use Rattle.table_scan.proofs.Wanted.{wanted_is, is_wanted-itself}
@@ -102,16 +102,16 @@ record Numbered (mode : Mode) (ks : List Token) (other : State) : Type 0 where
   generation : ℕ
   rest : List Token
   parts : ks ≡ Number digits ∷ rest
-  number : number_in digits ≡ Some generation
+  number : generation_of digits ≡ Some generation
   ending : Ending (record { mode = mode; generation = generation }) rest other
 
-counted : (mode : Mode) (digits : List ℕ) (ks : List Token) (other : State) (o : Option ℕ) → number_in digits ≡ o → all_of (number_done mode o) ks (λ p. walk state_next p ks) ≡ Done other → Numbered mode (Number digits ∷ ks) other
+counted : (mode : Mode) (digits : List ℕ) (ks : List Token) (other : State) (o : Option ℕ) → generation_of digits ≡ o → all_of (number_done mode o) ks (λ p. walk state_next p ks) ≡ Done other → Numbered mode (Number digits ∷ ks) other
 counted mode digits ks other (Some n) e f = record { digits = digits; generation = n; rest = ks; parts = refl; number = e; ending = after_generation ks (record { mode = mode; generation = n }) other f }
 counted mode digits ks other None e f = absurd cc
 
 at_generation : (mode : Mode) (ks : List Token) (other : State) → state_walk (Before_generation mode []) ks ≡ Done other → Numbered mode ks other
 at_generation mode [] other e = absurd cc
-at_generation mode (Number digits ∷ ks) other e = counted mode digits ks other (number_in digits) refl e
+at_generation mode (Number digits ∷ ks) other e = counted mode digits ks other (generation_of digits) refl e
 at_generation mode (_ ∷ ks) other e = absurd cc
 
 record Moded (ks : List Token) (other : State) : Type 0 where
@@ -152,8 +152,8 @@ state_is_walked ks state s =
     ∙ mode_complete before_mode (Quoted (mode_text state.mode) ∷ values)
     ∙ rw (mode_named state.mode) (generation_complete state.mode before_generation (Number s.digits ∷ (s.comma ++ the_end)) ∙ rw s.number (end_walk state s.comma s.is_comma))
 
-number_zero : number_in (48 ∷ []) ≡ Some 0
-unfolding number_in
+number_zero : generation_of (48 ∷ []) ≡ Some 0
+unfolding generation_of number_in
 number_zero = refl
 
 generation_completes : (mode : Mode) (wanted : List Token) → Completes state_next (Before_generation mode wanted)

@@ -1,13 +1,12 @@
 -- The reading of a state's tokens.
 use Rattle.std.proofs.Common.{◌≡◌, ℕ, Bool, true, false, cond, List, [], ◌∷◌, Option, Some, None, Result, Ok, Err, refl, ap, ◌∙◌}
 use Rattle.path_name.specs.Given.{◌>>=◌}
-use Rattle.path_name.specs.Decimals.{number_in}
 use Rattle.std.specs.Option.{ok_or}
 use Rattle.table_scan.specs.declared.mark.Mark.TheVariants as marks
 use Rattle.table_scan.specs.declared.types.Mode.{Mode}
 use Rattle.table_scan.specs.declared.types.State.{State}
 use Rattle.table_scan.specs.TableTokens.{Token, Marked, Quoted, Number, Stray, Placed}
-use Rattle.table_scan.specs.TableGrammar.{marked}
+use Rattle.table_scan.specs.TableGrammar.{marked, generation_of}
 use Rattle.table_scan.specs.TableReading.{Next, Wrong, goes_on, front_from, read_from, ended, is_wanted, StatePlace, Before_mode, Before_generation, After_generation, At_close, At_state_end, mode_of, before_mode, before_generation, mode_done, number_done, state_next, state_start}
 use Rattle.table_scan.specs.TableSteps.{behind_wanted, token_at, tokens_at, quoted_in, number_token, separator_token, behind_generation, mode_at, generation_at, state_end_at, nothing_at, values_at, state_at}
 
@@ -65,8 +64,8 @@ front-generation mode (t ∷ ts) = by t.token
     counted (Some n) = refl
     counted None = refl
 
-    by : (k : Token) → on_token (Before_generation mode []) k t ts ≡ ((number_token k t ts >>= λ read. ok_or (number_in read.0) t.left >>= λ n. Ok (n, read.1)) >>= behind_number mode)
-    by (Number digits) = counted (number_in digits)
+    by : (k : Token) → on_token (Before_generation mode []) k t ts ≡ ((number_token k t ts >>= λ read. ok_or (generation_of read.0) t.left >>= λ n. Ok (n, read.1)) >>= behind_number mode)
+    by (Number digits) = counted (generation_of digits)
     by (Marked mark) = refl
     by (Quoted text) = refl
     by Stray = refl

@@ -7,3 +7,6 @@ pub mod Stops
 pub mod Separators
 pub mod Keys
 pub mod Repeats
+pub mod TableNames
+pub mod QuotedTexts
+pub mod DistinctKeys

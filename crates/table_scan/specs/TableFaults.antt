@@ -45,6 +45,10 @@ ArePrefixRows project allowed ts rows = IsTable (IsRow allowed (IsFolders projec
 abbrev pub AreClassRows : List (List ℕ) → List Token → List ClassRow → Type 0
 AreClassRows project ts rows = IsTable (IsRow is_any (IsPath project) class_row) ts rows
 
+-- some text has these tokens
+abbrev pub IsSpelled : List Token → Type 0
+IsSpelled ts = (text : List ℕ) × (token_list (text_tokens text) ≡ ts)
+
 -- A text is of a kind, with a value.
 abbrev pub IsTextOf : {V : Type 0} → (List Token → V → Type 0) → List ℕ → V → Type 0
 IsTextOf IsKind text value = IsKind (token_list (text_tokens text)) value
@@ -74,22 +78,27 @@ pub record IsTableText (texts : TableTexts) (project : List (List ℕ)) (tables 
 
 -- ---- the place of a fault, in the words of the grammar
 
--- no list of tokens of the kind goes on with the first of the others, or ends where there is none
+-- These tokens begin some text of a kind.
+pub record BeginsText {V : Type 0} (IsKind : List Token → V → Type 0) (front : List Token) : Type 0 where
+  pub text : List ℕ
+  pub value : V
+  pub more : List Token
+  pub is : IsTextOf IsKind text value
+  pub parts : token_list (text_tokens text) ≡ front ++ more
+
+-- no text of the kind begins with these tokens and the first of the others, or has these alone where there is none
 abbrev pub Stops : {V : Type 0} → (List Token → V → Type 0) → List Token → List Placed → Type 0
 Stops {V} IsKind before [] = (value : V) → IsKind before value → ⊥
-Stops {V} IsKind before (t ∷ ts) = (more : List Token) (value : V) → IsKind (before ++ t.token ∷ more) value → ⊥
+Stops IsKind before (t ∷ ts) = BeginsText IsKind (before ++ t.token ∷ []) → ⊥
 
--- A text is not of a kind, and this is the place of its fault: the tokens before it begin some list of tokens
--- of the kind, and with the token at the place they begin none. The place is the text's length where no
--- token stands there.
+-- A text is not of a kind, and this is the place of its fault: the tokens before it begin some text of the kind,
+-- and with the token at the place they begin none. The place is the text's length where no token stands there.
 pub record IsFault {V : Type 0} (IsKind : List Token → V → Type 0) (text : List ℕ) (at : ℕ) : Type 0 where
   pub before : List Placed
   pub others : List Placed
-  pub more : List Token
-  pub value : V
   pub parts : text_tokens text ≡ before ++ others
   pub place : at ≡ length text - left_of others
-  pub begins : IsKind (token_list before ++ more) value
+  pub begins : BeginsText IsKind (token_list before)
   pub stops : Stops IsKind (token_list before) others
 
 abbrev pub IsFaultIn : {V : Type 0} → (List Token → V → Type 0) → Option (List ℕ) → ℕ → Type 0

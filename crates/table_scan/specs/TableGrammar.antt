@@ -1,5 +1,5 @@
 -- The grammar of tables, over the tokens of whole texts: the form in which Composer writes them.
-use Rattle.std.specs.Prelude.{◌≡◌, ℕ, ◌⊎◌, List, [], ◌∷◌, ◌++◌, codes, Bool, true, ◌==◌, if◌then◌else◌, Some, Ok}
+use Rattle.std.specs.Prelude.{◌≡◌, ℕ, ◌⊎◌, nat_lt, List, [], ◌∷◌, ◌++◌, length, codes, Bool, true, ◌==◌, if◌then◌else◌, Option, Some, None, Ok}
 use Rattle.path_name.specs.Orders.{bytes_are_equal}
 use Rattle.path_name.specs.Decimals.{number_in}
 use Rattle.path_name.specs.Paths.{followed}
@@ -8,7 +8,7 @@ use Rattle.table_scan.specs.declared.mark.Mark.TheVariants.{Tag, VendorDir, Base
 use Rattle.table_scan.specs.declared.types.Mode.{Mode}
 use Rattle.table_scan.specs.declared.types.Mode.TheVariants.{Plain, Optimised, Authoritative}
 use Rattle.table_scan.specs.declared.types.State.{State}
-use Rattle.table_scan.specs.TableTokens.{Token, Marked, Quoted, Number}
+use Rattle.table_scan.specs.TableTokens.{Token, Marked, Quoted, Number, most_digits}
 
 -- the tokens of marks
 abbrev pub marked : List Mark → List Token
@@ -118,16 +118,20 @@ mode_text Plain = codes "plain"
 mode_text Optimised = codes "optimised"
 mode_text Authoritative = codes "authoritative"
 
+-- the number below 2^64 that digits stand for, 20 of them at most
+unfoldable pub generation_of : List ℕ → Option ℕ
+generation_of digits = if nat_lt most_digits (length digits) then None else number_in digits
+
 -- `,` or nothing
 abbrev pub IsLastComma : List Token → Type 0
 IsLastComma ts = (ts ≡ []) ⊎ (ts ≡ Marked Comma ∷ [])
 
 -- `<?php return array('mode' => M, 'generation' => G);`, with an optional last `,`: M is the text of a mode,
--- and G a number below 2^64, with leading zeros or without
+-- and G a number below 2^64 in 20 digits at most, with leading zeros or without
 pub record IsState (ts : List Token) (state : State) : Type 0 where
   pub digits : List ℕ
   pub comma : List Token
-  pub number : number_in digits ≡ Some state.generation
+  pub number : generation_of digits ≡ Some state.generation
   pub is_comma : IsLastComma comma
   pub parts : ts ≡ marked (Tag ∷ Return ∷ Array ∷ Open ∷ []) ++ (Quoted mode_key ∷ Marked Arrow ∷ Quoted (mode_text state.mode) ∷ Marked Comma
       ∷ Quoted generation_key ∷ Marked Arrow ∷ Number digits ∷ (comma ++ Marked Close ∷ Marked Semicolon ∷ []))

@@ -2,7 +2,6 @@
 use Rattle.std.specs.Prelude.{ℕ, List, [], ◌∷◌, ◌++◌, Bool, true, false, ◌==◌, if◌then◌else◌, Option, Some, None, Result, Ok, Err}
 use Rattle.std.specs.Result.{result_ok}
 use Rattle.path_name.specs.Given.{◌>>=◌}
-use Rattle.path_name.specs.Decimals.{number_in}
 use Rattle.path_name.specs.Orders.{bytes_are_equal}
 use Rattle.path_name.specs.Paths.{followed}
 use Rattle.table_scan.specs.declared.mark.Mark.{Mark}
@@ -11,7 +10,7 @@ use Rattle.table_scan.specs.declared.types.Mode.{Mode}
 use Rattle.table_scan.specs.declared.types.Mode.TheVariants.{Plain, Optimised, Authoritative}
 use Rattle.table_scan.specs.declared.types.State.{State}
 use Rattle.table_scan.specs.TableTokens.{Token, Marked, Quoted, Number, Stray, Placed}
-use Rattle.table_scan.specs.TableGrammar.{marked, vendor_name, before_folder, behind_folder, mode_key, generation_key, mode_text}
+use Rattle.table_scan.specs.TableGrammar.{marked, vendor_name, before_folder, behind_folder, mode_key, generation_key, mode_text, generation_of}
 
 -- After one more token: a place, or a value that is whole, or nothing goes on so.
 pub data Outcome (W V : Type 0) : Type 0 where
@@ -200,7 +199,7 @@ state_next (Before_mode (wanted ∷ more)) token = if is_wanted wanted token the
 state_next (Before_mode []) (Quoted text) = mode_done (mode_of text)
 state_next (Before_mode []) _ = Wrong
 state_next (Before_generation mode (wanted ∷ more)) token = if is_wanted wanted token then Next (Before_generation mode more) else Wrong
-state_next (Before_generation mode []) (Number digits) = number_done mode (number_in digits)
+state_next (Before_generation mode []) (Number digits) = number_done mode (generation_of digits)
 state_next (Before_generation mode []) _ = Wrong
 state_next (After_generation state) (Marked Comma) = Next (At_close state)
 state_next (After_generation state) (Marked Close) = Next (At_state_end state)

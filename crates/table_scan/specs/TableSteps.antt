@@ -5,9 +5,8 @@ use Rattle.table_scan.specs.declared.stop.Stop.{Stop}
 use Rattle.table_scan.specs.declared.stop.Stop.TheVariants.{Bad, OutOfMemory}
 use Rattle.table_scan.specs.declared.mark.Mark.TheVariants as marks
 use Rattle.table_scan.specs.TableTokens.{Token, Marked, Quoted, Number, Stray, Piece, End, Gap, Lexeme, Placed, left_of}
-use Rattle.table_scan.specs.TableGrammar.{marked, vendor_name, before_folder, behind_folder, is_any}
+use Rattle.table_scan.specs.TableGrammar.{marked, vendor_name, before_folder, behind_folder, is_any, generation_of}
 use Rattle.std.specs.Option.{ok_or}
-use Rattle.path_name.specs.Decimals.{number_in}
 use Rattle.table_scan.specs.declared.types.Mode.{Mode}
 use Rattle.table_scan.specs.declared.types.State.{State}
 use Rattle.table_scan.specs.declared.types.PrefixRow.{PrefixRow}
@@ -138,9 +137,9 @@ nothing_at (t ∷ ts) = Err t.left
 abbrev pub mode_at : List Placed → Result (Mode × List Placed) ℕ
 mode_at ts = quoted_at ts >>= λ read. ok_or (mode_of read.0) (left_of ts) >>= λ mode. Ok (mode, read.1)
 
--- a number below 2^64, and what follows it
+-- a number below 2^64 in 20 digits at most, and what follows it
 abbrev pub generation_at : List Placed → Result (ℕ × List Placed) ℕ
-generation_at ts = number_at ts >>= λ read. ok_or (number_in read.0) (left_of ts) >>= λ n. Ok (n, read.1)
+generation_at ts = number_at ts >>= λ read. ok_or (generation_of read.0) (left_of ts) >>= λ n. Ok (n, read.1)
 
 abbrev pub behind_generation : Behind → Result (List Placed) ℕ
 behind_generation (More ts) = tokens_at (marked (marks.Close ∷ marks.Semicolon ∷ [])) ts

@@ -6,6 +6,7 @@ mod head;
 mod laws;
 mod list;
 mod mark;
+mod names;
 mod number;
 mod quoted;
 mod repeats;
@@ -16,7 +17,8 @@ mod stop;
 mod table;
 mod types;
 
-pub use laws::table_texts;
+pub use laws::{table_texts, token_lists};
+pub use names::table_name;
 pub use table::read;
 pub use types::{
     ClassRow, FileRow, Mode, PrefixRow, State, TableFault, TableFile, TableTexts, Tables,

@@ -83,6 +83,7 @@ fn mode(alloc: Global, text: &[u8]) -> Result<(Mode, &[u8]), Stop>
 }
 
 /// The number that is the next token, one below 2^64, and what follows it.
+#[tactic(auto, using(crate::proofs::Spelled::few_digits))]
 fn generation(text: &[u8]) -> Result<(u64, &[u8]), Stop>
     ensures { Stands (λ x. (x.0, tokens x.1.now)) (generation_at (tokens text.now)) result }
 {

@@ -6,6 +6,7 @@ ghost use Rattle.table_scan.specs.Keys.{allows};
 ghost use Rattle.table_scan.specs.TableTokens.{text_tokens};
 ghost use Rattle.table_scan.specs.TableGrammar.{is_whole};
 ghost use Rattle.table_scan.specs.TableFaults.{IsTableText, IsTableFault, tables_of, prefixes_of, classes_of, prefix_of, class_of, with_last_values, file_row, prefix_table, class_table, file_table, state_table};
+ghost use Rattle.table_scan.specs.DistinctKeys.{HaveDistinctKeys};
 ghost use Rattle.table_scan.specs.TableSteps.{Reads, prefix_rows_at, class_rows_at, fault_of};
 ghost use Rattle.table_scan.specs.declared.types.Tables.{Tables};
 ghost use Rattle.table_scan.specs.declared.types.TableFault.TheVariants.{OutOfMemory};
@@ -212,6 +213,8 @@ pub fn read(alloc: Global, texts: &TableTexts, project: &Path) -> Result<Tables,
     ensures fault { IfErr result (λ e. e ≢ OutOfMemory → IsTableFault texts.now project.now e) }
     // The prefixes of PSR-4 rows are empty or end in `\`.
     ensures whole { IfOk result (λ tables. All (λ row. IsTrue (is_whole row.prefix)) tables.psr4) }
+    // No key stands twice in a table.
+    ensures distinct { IfOk result (λ tables. HaveDistinctKeys tables) }
     // The tables or the fault.
     ensures exact { Gives (λ tables. tables) OutOfMemory (tables_of project.now texts.now) result }
 {

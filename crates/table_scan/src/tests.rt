@@ -19,7 +19,7 @@ struct Cut {
     tokens: &'static [(usize, usize)],
 }
 
-static READ: [Row; 16] = [
+static READ: [Row; 17] = [
     Row {
         file: TableFile::Psr4,
         text: b"<?php $vendorDir=dirname(__DIR__);$baseDir=dirname($vendorDir);return array();",
@@ -66,6 +66,12 @@ static READ: [Row; 16] = [
         file: TableFile::Psr4,
         text: b"<?php $vendorDir=dirname(__DIR__);$baseDir=dirname($vendorDir);return array('A\\\\'=>array($baseDir.'/1'),'B\\\\'=>array($baseDir.'/2'),'A\\\\'=>array($baseDir.'/3'));",
         shown: Some(b"A\\>app/3\nB\\>app/2\n"),
+        at: 0,
+    },
+    Row {
+        file: TableFile::Psr4,
+        text: b"<?php $vendorDir=dirname(__DIR__);$baseDir=dirname($vendorDir);return array('B\\\\'=>array($baseDir.'/1'),'C\\\\'=>array($baseDir.'/2'),'A\\\\'=>array($baseDir.'/3'));",
+        shown: Some(b"B\\>app/1\nC\\>app/2\nA\\>app/3\n"),
         at: 0,
     },
     Row {

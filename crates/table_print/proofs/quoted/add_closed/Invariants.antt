@@ -1,5 +1,5 @@
 use Rattle.std.proofs.Common.{◌≡◌, ◌++◌, length}
-use Rattle.table_print.specs.TablePrinting.{escaped}
+use Rattle.table_scan.specs.QuotedTexts.{escaped}
 use Rattle.table_print.proofs.quoted.add_closed.Given as goal
 
 abbrev pub invariant-loop-byte : goal.invariant-loop-byte

@@ -4,7 +4,7 @@ use Rattle.std.specs.List.{AllByRecursion, IsDistinct}
 use Rattle.std.proofs.lemmas.List.{append-nil}
 use Rattle.path_name.specs.Orders.{bytes_are_equal}
 use Rattle.table_scan.specs.TableGrammar.{put, put_all, last_values}
-use Rattle.table_print.specs.DistinctKeys.{AreDistinct}
+use Rattle.table_scan.specs.DistinctKeys.{AreDistinct}
 
 module _ {R : Type 0} (key : R → List ℕ) where
   -- the key is that of none of the rows

@@ -1,16 +1,20 @@
 -- The keys of what is read are distinct.
-use Rattle.std.proofs.Common.{◌≡◌, ℕ, Bool, false, List, [], ◌∷◌, map, Option, Some, None, Ok, refl, ap, subst}
+use Rattle.std.proofs.Common.{◌≡◌, ℕ, Bool, false, List, [], ◌∷◌, map, Option, Some, None, Result, Ok, Err, refl, ap, subst}
+use Rattle.std.specs.Prelude.{IfOk}
 use Rattle.std.specs.List.{AllByRecursion, IsDistinct}
 use Rattle.std.specs.Cmp.Lexicographic.{bytes_decides}
+use Rattle.path_name.specs.Given.{Gives}
 use Rattle.path_name.specs.Orders.{bytes_are_equal}
 use Rattle.table_scan.specs.declared.types.PrefixRow.{PrefixRow}
 use Rattle.table_scan.specs.declared.types.ClassRow.{ClassRow}
 use Rattle.table_scan.specs.declared.types.FileRow.{FileRow}
 use Rattle.table_scan.specs.declared.types.Tables.{Tables}
 use Rattle.table_scan.specs.declared.types.TableTexts.{TableTexts}
+use Rattle.table_scan.specs.declared.types.TableFault.{TableFault}
+use Rattle.table_scan.specs.declared.types.TableFault.TheVariants as faults
 use Rattle.table_scan.specs.TableGrammar.{put, put_all, last_values}
-use Rattle.table_scan.specs.TableFaults.{file_row, prefix_of, class_of, HoldsPrefixes, HoldsClasses, HoldsFiles, tables_of}
-use Rattle.table_print.specs.DistinctKeys.{id_of, AreDistinct, HaveDistinctKeys}
+use Rattle.table_scan.specs.TableFaults.{file_row, prefix_of, class_of, HoldsPrefixes, HoldsClasses, HoldsFiles, IsTableText, tables_of}
+use Rattle.table_scan.specs.DistinctKeys.{id_of, AreDistinct, HaveDistinctKeys}
 use Rattle.table_scan.proofs.Cases.{by_test}
 use Rattle.table_scan.proofs.Meaning.{tables_are}
 
@@ -57,12 +61,15 @@ same_ids (row ∷ rows) = ap (λ ks. row.class ∷ ks) (same_ids rows)
 files_distinct : (project : List (List ℕ)) (text : Option (List ℕ)) (rows : List FileRow) → HoldsFiles project text rows → AreDistinct (map id_of rows)
 files_distinct project text rows h = rw h.2 (subst AreDistinct (same_ids h.0) (classes_distinct project text h.0 h.1))
 
-pub read_distinct : (project : List (List ℕ)) (texts : TableTexts) (tables : Tables) → tables_of project texts ≡ Ok tables → HaveDistinctKeys tables
-read_distinct project texts tables h =
-    let are = tables_are project texts tables h in
-    record {
-      psr4 = prefixes_distinct project _ texts.psr4 tables.psr4 are.psr4;
-      psr0 = prefixes_distinct project _ texts.psr0 tables.psr0 are.psr0;
-      class_map = classes_distinct project texts.class_map tables.class_map are.class_map;
-      files = files_distinct project texts.files tables.files are.files;
-    }
+pub held_distinct : (project : List (List ℕ)) (texts : TableTexts) (tables : Tables) → IsTableText texts project tables → HaveDistinctKeys tables
+held_distinct project texts tables are = record {
+  psr4 = prefixes_distinct project _ texts.psr4 tables.psr4 are.psr4;
+  psr0 = prefixes_distinct project _ texts.psr0 tables.psr0 are.psr0;
+  class_map = classes_distinct project texts.class_map tables.class_map are.class_map;
+  files = files_distinct project texts.files tables.files are.files;
+}
+
+-- in the words of a contract
+pub distinct_read : (project : List (List ℕ)) (texts : TableTexts) (result : Result Tables TableFault) → Gives (λ tables. tables) faults.OutOfMemory (tables_of project texts) result → IfOk result (λ tables. HaveDistinctKeys tables)
+distinct_read project texts (Ok tables) h = held_distinct project texts tables (tables_are project texts tables h)
+distinct_read project texts (Err fault) h = tt

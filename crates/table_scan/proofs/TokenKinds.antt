@@ -1,8 +1,7 @@
 -- The tokens of a text, without their places, from its front on.
-use Rattle.std.proofs.Common.{◌≡◌, ℕ, zero, suc, ◌<◌, ◌≤◌, ◌^◌, Bool, true, false, eqb, cond, List, [], ◌∷◌, ◌++◌, length, Some, None, refl, ap, ◌∙◌, append_assoc, arith}
-use Rattle.std.specs.Prelude.{◌&&◌, ◌||◌, nat_lt}
+use Rattle.std.proofs.Common.{◌≡◌, ℕ, zero, suc, ◌<◌, ◌≤◌, ◌^◌, Bool, true, false, cond, List, [], ◌∷◌, ◌++◌, length, Some, None, refl, ap, ◌∙◌, append_assoc, arith}
+use Rattle.std.specs.Prelude.{◌&&◌, nat_lt}
 use Rattle.std.specs.List.{list_all}
-use Rattle.std.proofs.lemmas.Bool.Decides.{nat_tests}
 use Rattle.std.proofs.lemmas.Fmt.{length-decimal-le}
 use Rattle.path_name.specs.Bytes.{is_blank, is_digit}
 use Rattle.path_name.specs.Decimals.{is_number, number_of, number_in, decimal_text}
@@ -14,8 +13,9 @@ use Rattle.table_scan.specs.TableTokens.{Token, Marked, Quoted, Number, Gap, Lex
 use Rattle.table_scan.specs.TableFaults.{token_list}
 use Rattle.table_scan.proofs.Cases.{by_test}
 use Rattle.table_scan.proofs.Tokens.{tokens-gap, tokens-lexeme}
-use Rattle.table_scan.proofs.Quotes.{quoted_piece_at}
-use Rattle.table_print.specs.TablePrinting.{escaped, closed}
+use Rattle.table_scan.proofs.Numbers.{number_piece_at}
+use Rattle.table_scan.proofs.Quotes.{plain_step, quoted_piece_at}
+use Rattle.table_scan.specs.QuotedTexts.{escaped, closed}
 
 abbrev pub kinds : List ℕ → List Token
 kinds text = token_list (tokens text)
@@ -69,17 +69,6 @@ at_assign rest = at_lexeme (61 ∷ 32 ∷ rest) (32 ∷ rest) (Marked marks.Assi
 
 -- ---- quoted texts
 
-plain_tests : (byte : ℕ) → is_special byte ≡ false → (eqb byte 92 ≡ false) × (eqb byte 39 ≡ false)
-plain_tests byte h = by (eqb byte 92) (eqb byte 39) h
-  where
-    by : (s t : Bool) → (s || t) ≡ false → (s ≡ false) × (t ≡ false)
-    by true t e = absurd cc
-    by false t e = (refl, e)
-
-plain_step : (byte : ℕ) (rest : List ℕ) → is_special byte ≡ false → unquoted (byte ∷ rest) ≡ in_front (byte ∷ []) (unquoted rest)
-plain_step byte [] h = let t = plain_tests byte h in rw t.1 refl
-plain_step byte (next ∷ rest) h = let t = plain_tests byte h in rw (t.1, t.0) refl
-
 special_step : (byte : ℕ) (rest : List ℕ) → is_special byte ≡ true → unquoted (92 ∷ byte ∷ rest) ≡ in_front (byte ∷ []) (unquoted rest)
 special_step byte rest h = rw h refl
 
@@ -102,27 +91,21 @@ at_quoted text rest = at_lexeme (39 ∷ (closed text ++ rest)) rest (Quoted text
 
 -- ---- numbers
 
-digits_end : (n : ℕ) (digits rest : List ℕ) → list_all is_digit digits ≡ true → length digits ≤ n → front_digits n (digits ++ 44 ∷ rest) ≡ (digits, 44 ∷ rest)
+digits_end : (n : ℕ) (digits : List ℕ) (next : ℕ) (rest : List ℕ) → is_digit next ≡ false → list_all is_digit digits ≡ true → length digits ≤ n → front_digits n (digits ++ next ∷ rest) ≡ (digits, next ∷ rest)
 unfolding front_digits
-digits_end zero [] rest d l = refl
-digits_end zero (x ∷ xs) rest d l = absurd (omega arith)
-digits_end (suc n) [] rest d l = refl
-digits_end (suc n) (x ∷ xs) rest d l =
+digits_end zero [] next rest e d l = refl
+digits_end zero (x ∷ xs) next rest e d l = absurd (omega arith)
+digits_end (suc n) [] next rest e d l = rw e refl
+digits_end (suc n) (x ∷ xs) next rest e d l =
     let p = both_true (is_digit x) (list_all is_digit xs) d in
-    rw (p.0, digits_end n xs rest p.1 (omega arith)) refl
+    rw (p.0, digits_end n xs next rest e p.1 (omega arith)) refl
 
-digit_is_plain : (byte : ℕ) → is_digit byte ≡ true → (is_blank byte ≡ false) × (eqb byte 35 ≡ false) × (eqb byte 47 ≡ false) × (eqb byte 39 ≡ false)
-digit_is_plain byte d = (grind (arith, nat_tests), grind (arith, nat_tests), grind (arith, nat_tests), grind (arith, nat_tests))
-
-number_piece_at : (byte : ℕ) (rest : List ℕ) → is_digit byte ≡ true → piece_at (byte ∷ rest) ≡ number_piece (front_digits most_digits (byte ∷ rest))
-unfolding piece_at lexeme_at
-number_piece_at byte rest d = let p = digit_is_plain byte d in rw (p.0, p.1, p.2, p.3, d) refl
-
-at_digits : (digits rest : List ℕ) → is_number digits ≡ true → length digits ≤ 20 → kinds (digits ++ 44 ∷ rest) ≡ Number digits ∷ kinds (44 ∷ rest)
-at_digits [] rest h l = absurd cc
-at_digits (x ∷ xs) rest h l =
+-- digits behind which another byte stands
+pub at_digits : (digits : List ℕ) (next : ℕ) (rest : List ℕ) → is_digit next ≡ false → is_number digits ≡ true → length digits ≤ 20 → kinds (digits ++ next ∷ rest) ≡ Number digits ∷ kinds (next ∷ rest)
+at_digits [] next rest e h l = absurd cc
+at_digits (x ∷ xs) next rest e h l =
     let p = both_true (is_digit x) (list_all is_digit xs) h in
-    at_lexeme (x ∷ xs ++ 44 ∷ rest) (44 ∷ rest) (Number (x ∷ xs)) (number_piece_at x (xs ++ 44 ∷ rest) p.0 ∙ ap number_piece (digits_end most_digits (x ∷ xs) rest h l))
+    at_lexeme (x ∷ xs ++ next ∷ rest) (next ∷ rest) (Number (x ∷ xs)) (number_piece_at x (xs ++ next ∷ rest) p.0 ∙ ap number_piece (digits_end most_digits (x ∷ xs) next rest e h l))
 
 decimal_is_number : (n : ℕ) → n < 2 ^ 64 → is_number (decimal_text n) ≡ true
 unfolding number_in
@@ -134,4 +117,4 @@ decimal_is_number n h = by (is_number (decimal_text n)) (nat_lt (number_of (deci
 
 -- a number below 2^64 with a `,` behind it
 pub at_number : (n : ℕ) (rest : List ℕ) → n < 2 ^ 64 → kinds (decimal_text n ++ 44 ∷ rest) ≡ Number (decimal_text n) ∷ kinds (44 ∷ rest)
-at_number n rest h = at_digits (decimal_text n) rest (decimal_is_number n h) (length-decimal-le 20 n (omega arith) (omega arith) h)
+at_number n rest h = at_digits (decimal_text n) 44 rest refl (decimal_is_number n h) (length-decimal-le 20 n (omega arith) (omega arith) h)
