@@ -2,7 +2,7 @@
 use Rattle.std.specs.Prelude.{ℕ, List, [], ◌∷◌, ◌++◌, codes}
 use Rattle.table_scan.specs.TableGrammar.{vendor_name}
 use Rattle.table_scan.specs.declared.types.TableFile.{TableFile}
-use Rattle.run_answers.specs.Messages.{table_name}
+use Rattle.table_scan.specs.TableNames.{table_name}
 
 unfoldable pub composer_name : List ℕ
 composer_name = codes "composer"

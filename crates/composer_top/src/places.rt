@@ -3,7 +3,7 @@
 ghost use Rattle.std.specs.Prelude.{◌≡◌, ◌++◌, [], ◌∷◌, IfOk, IsOk, Ok, codes};
 ghost use Rattle.path_name.specs.Paths.{path_of};
 ghost use Rattle.table_scan.specs.TableGrammar.{vendor_name};
-ghost use Rattle.run_answers.specs.Messages.{table_name};
+ghost use Rattle.table_scan.specs.TableNames.{table_name};
 ghost use Rattle.tree_dev.specs.Projects.{journal_path};
 ghost use Rattle.composer_top.specs.Places.{composer_name, table_place};
 

@@ -1,3 +1,5 @@
+mod of_composer;
+
 use crate::run;
 use path_name::{Path, Text};
 use std::alloc::Global;
@@ -318,6 +320,11 @@ fn table_refusals(alloc: Global) -> Result<Vec<Row>, Fail> {
     rows.push(refused(&SUBFOLDER, HOME, 14, NO_TABLES))?;
     rows.push(refused(&STATE_ALONE, HOME, 14, NO_TABLES))?;
     rows.push(refused(&LOADED, HOME, 14, NO_TABLES))?;
+    Ok(rows)
+}
+
+fn table_faults(alloc: Global) -> Result<Vec<Row>, Fail> {
+    let mut rows = Vec::new(alloc);
     rows.push(refused(
         &NO_TABLE,
         HOME,
@@ -342,6 +349,11 @@ fn table_refusals(alloc: Global) -> Result<Vec<Row>, Fail> {
         14,
         b"error: autoload_files.php: bad table at 0\n",
     ))?;
+    Ok(rows)
+}
+
+fn other_entries(alloc: Global) -> Result<Vec<Row>, Fail> {
+    let mut rows = Vec::new(alloc);
     rows.push(refused(&TABLE_IS_FOLDER, HOME, 15, PSR4_IS_OTHER))?;
     rows.push(refused(&TABLE_IS_OTHER, HOME, 15, PSR4_IS_OTHER))?;
     rows.push(refused(
@@ -498,6 +510,17 @@ fn refusals(rt: HostRuntime) -> Result<(), Fail> {
         disturbed(&rt, rt.alloc(), row)?;
     }
     for row in &table_refusals(rt.alloc())? {
+        disturbed(&rt, rt.alloc(), row)?;
+    }
+    Ok(())
+}
+
+#[test]
+fn refused_tables(rt: HostRuntime) -> Result<(), Fail> {
+    for row in &table_faults(rt.alloc())? {
+        disturbed(&rt, rt.alloc(), row)?;
+    }
+    for row in &other_entries(rt.alloc())? {
         disturbed(&rt, rt.alloc(), row)?;
     }
     Ok(())

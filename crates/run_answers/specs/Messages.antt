@@ -5,8 +5,7 @@ use Rattle.path_name.specs.Paths.{path_text}
 use Rattle.path_name.specs.Decimals.{decimal_text}
 use Rattle.tree_dev.specs.declared.limits.LimitKind.{LimitKind}
 use Rattle.tree_dev.specs.declared.limits.LimitKind.TheVariants as limits
-use Rattle.table_scan.specs.declared.types.TableFile.{TableFile}
-use Rattle.table_scan.specs.declared.types.TableFile.TheVariants as tables
+use Rattle.table_scan.specs.TableNames.{table_name}
 use Rattle.run_answers.specs.declared.refusal.NamedFile.{NamedFile}
 use Rattle.run_answers.specs.declared.refusal.NamedFile.TheVariants as files
 use Rattle.run_answers.specs.declared.refusal.DocumentFault.{DocumentFault}
@@ -17,14 +16,6 @@ use Rattle.run_answers.specs.declared.refusal.Place.{Place}
 use Rattle.run_answers.specs.declared.refusal.Place.TheVariants as places
 use Rattle.run_answers.specs.declared.refusal.Refusal.{Refusal}
 use Rattle.run_answers.specs.declared.refusal.Refusal.TheVariants as refusals
-
--- a table file's name
-unfoldable pub table_name : TableFile → List ℕ
-table_name tables.Psr4 = codes "autoload_psr4.php"
-table_name tables.Psr0 = codes "autoload_namespaces.php"
-table_name tables.ClassMap = codes "autoload_classmap.php"
-table_name tables.Files = codes "autoload_files.php"
-table_name tables.State = codes "autoload_state.php"
 
 -- the name of a file of JSON; of a package's manifest its path
 unfoldable pub file_text : NamedFile → List ℕ

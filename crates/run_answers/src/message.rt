@@ -4,12 +4,13 @@ ghost use Rattle.std.specs.Prelude.{◌≡◌, ◌++◌, ◌∷◌, [], map, IfO
 ghost use Rattle.std.specs.List.{flat_map};
 ghost use Rattle.path_name.specs.Decimals.{decimal_text};
 ghost use Rattle.run_answers.specs.declared.refusal.Refusal.TheVariants.{OutOfMemory, SinkFault};
-ghost use Rattle.run_answers.specs.Messages.{table_name, file_text, fault_text, rule_text, place_text, limit_text, colon, not_offered, bad_table_at, lock_breaks, message_of, error_line};
+ghost use Rattle.table_scan.specs.TableNames.{table_name};
+ghost use Rattle.run_answers.specs.Messages.{file_text, fault_text, rule_text, place_text, limit_text, colon, not_offered, bad_table_at, lock_breaks, message_of, error_line};
 
 use crate::refusal::{BrokenRule, DocumentFault, NamedFile, Place, Refusal};
 use path_name::{Name, push_number};
 use std::alloc::{AllocError, Global};
-use table_scan::TableFile;
+use table_scan::{TableFile, table_name};
 use tree_dev::LimitKind;
 
 /// The line of a refusal: `error: `, its message and LF. Its one refusal is want of memory.
@@ -37,20 +38,6 @@ pub fn output_line() -> &'static [u8]
     ensures { result.now ≡ error_line SinkFault }
 {
     b"error: output fault\n"
-}
-
-/// The name of a table's file.
-#[tactic(auto, unfolding(crate::specs::Messages::table_name))]
-pub fn table_name(table: TableFile) -> &'static [u8]
-    ensures { result.now ≡ table_name table }
-{
-    match table {
-        TableFile::Psr4 => b"autoload_psr4.php",
-        TableFile::Psr0 => b"autoload_namespaces.php",
-        TableFile::ClassMap => b"autoload_classmap.php",
-        TableFile::Files => b"autoload_files.php",
-        TableFile::State => b"autoload_state.php",
-    }
 }
 
 /// Puts the message of a refusal behind a text.

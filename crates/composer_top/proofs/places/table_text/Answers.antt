@@ -2,7 +2,7 @@ use Rattle.std.proofs.Common.{refl}
 use Rattle.std.specs.Str.{is_utf8, chars}
 use Rattle.path_name.specs.Paths.{path_of}
 use Rattle.table_scan.specs.TableGrammar.{vendor_name}
-use Rattle.run_answers.specs.Messages.{table_name}
+use Rattle.table_scan.specs.TableNames.{table_name}
 use Rattle.composer_top.specs.Places.{composer_name}
 use Rattle.composer_top.proofs.places.table_text.Goals as goal
 
