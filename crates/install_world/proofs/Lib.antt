@@ -1,12 +1,17 @@
 pub mod ApartPaths
 pub mod Cuts
+pub mod Finished
 pub mod FirstLine
+pub mod FlightLaws
 pub mod Grammar
 pub mod GrammarLines
 pub mod LineWords
 pub mod OneJournal
+pub mod PartMoves
+pub mod PartPaths
 pub mod PathBytes
 pub mod Places
 pub mod ReadJournal
 pub mod ReadTargets
 pub mod TargetLines
+pub mod WayMoves

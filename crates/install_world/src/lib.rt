@@ -3,9 +3,11 @@
 
 mod apart;
 mod fault;
+mod flight_laws;
 mod journal;
 mod laws;
 mod lines;
+mod moving;
 mod reader;
 mod reading;
 mod target;
@@ -14,8 +16,13 @@ mod words;
 mod writing;
 
 pub use fault::JournalFault;
+pub use flight_laws::{
+    lost_parts_are_not_in_flight, moves_keep_in_flight, staged_jobs_are_in_flight,
+    what_is_in_flight_is_finished,
+};
 pub use journal::Journal;
 pub use laws::{bad_journals_have_one_place, journal_texts_are_read};
+pub use moving::{Places, move_part};
 pub use reading::read_journal;
 pub use target::{Target, is_target_path};
 pub use version::Version;
