@@ -7,7 +7,7 @@ use Rattle.std.proofs.lemmas.Option.{slice_get_within, get_or_from_slice_get}
 use Rattle.tree_dev.specs.Trees.{FileTree, behind}
 use Rattle.tree_dev.specs.Projects.{bytes_of, file_at, is_project_part, is_surroundings}
 use Rattle.tree_dev.proofs.Behind.{behind_head, head_behind}
-use Rattle.install_world.specs.InFlight.{Files, HasFiles, HasFilesOf, HasJournal, IsDone, IsFinishedProject, IsGoing, IsInFlight, IsMoving, IsNotBegun, IsPart, IsStagedJob, IsStagedPart, IsStagedSource, IsTakenAway, NoJournal, PartInFlight, finished_by, finished_file, job_file, job_result, kept_path, part_at, part_from, placed_or, Placed, staged_path, target_path}
+use Rattle.install_world.specs.InFlight.{Files, HasFiles, HasFilesOf, HasJournal, IsDone, IsFinishedProject, IsGoing, IsInFlight, IsMoving, IsNotBegun, IsPart, HasStagedParts, IsStagedPart, IsStagedSource, IsTakenAway, NoJournal, PartInFlight, finished_by, finished_file, job_file, job_result, kept_path, part_at, part_from, placed_or, Placed, staged_path, target_path}
 use Rattle.install_world.specs.JournalText.{IsTargetOf}
 use Rattle.install_world.specs.Targets.{AreTargetsApart, IsTargetPath}
 use Rattle.install_world.specs.declared.journal.Journal.{Journal}
@@ -33,14 +33,17 @@ pub record FoundPart (project : List (List ℕ)) (targets : List Target) (path :
 found_from : (offset : ℕ) (project path : List (List ℕ)) (targets : List Target) (part : Placed) → part_from offset project targets path ≡ Some part
     → FoundPart project targets path part offset
 found_from offset project path [] part e = absurd cc
-found_from offset project path (target ∷ targets) part e = by (behind (target_path project target) path) refl e
+found_from offset project path (target ∷ targets) part e =
+    by (behind (target_path project target) path) refl e (λ rest. found_from (offset + 1) project path targets part rest)
   where
     by : (found : Option (List (List ℕ))) → behind (target_path project target) path ≡ found
-        → placed_or found offset target.gone (part_from (offset + 1) project targets path) ≡ Some part → FoundPart project (target ∷ targets) path part offset
-    by None behind_is e =
-        let more = found_from (offset + 1) project path targets part e in
+        → placed_or found offset target.gone (part_from (offset + 1) project targets path) ≡ Some part
+        → (part_from (offset + 1) project targets path ≡ Some part → FoundPart project targets path part (offset + 1))
+        → FoundPart project (target ∷ targets) path part offset
+    by None behind_is e rest =
+        let more = rest e in
         record { index = suc more.index; target = more.target; number = more.number ∙ omega arith; is_part = more.is_part; gone = more.gone; path_is = more.path_is }
-    by (Some below) behind_is e =
+    by (Some below) behind_is e rest =
         let first : placing offset target.gone below ≡ part = cc in
         record {
           index = 0;
@@ -129,7 +132,7 @@ moving_is_finished project old new t moving path in_project = by (part_at projec
 
 -- A job that is staged whole, with its journal, is on the way from the project that stands to what the job makes of it.
 pub staged_is_moving : (project : List (List ℕ)) (old : Files) (puts : ℕ → Files) (t : FileTree) (journal : Journal) → HasJournal project t journal
-    → IsStagedJob project journal.targets puts t → HasFiles project t old → IsMoving project old (job_result project journal.targets puts old) t
+    → HasStagedParts project journal.targets puts t → HasFiles project t old → IsMoving project old (job_result project journal.targets puts old) t
 unfolding job_result
 staged_is_moving project old puts t journal stands job has = record {
   journal = journal;

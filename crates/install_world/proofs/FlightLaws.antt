@@ -8,7 +8,7 @@ use Rattle.tree_dev.specs.Changes.{changed, is_root}
 use Rattle.tree_dev.specs.Projects.{bytes_of, file_at, is_project_part, is_surroundings, journal_path}
 use Rattle.tree_dev.specs.declared.change.Change.TheVariants.{Renamed}
 use Rattle.tree_dev.proofs.Carried.{nothing_below}
-use Rattle.install_world.specs.InFlight.{AreAllDone, Files, HasFiles, HasFilesOf, HasJournal, HasSurroundings, IsDone, IsFinishedProject, IsGoing, IsInFlight, IsMoving, IsNotBegun, IsPart, IsPartDone, IsStagedJob, IsStagedPart, IsTakenAway, IsThere, NoJournal, PartInFlight, Placed, finished_by, finished_file, job_result, kept_path, part_at, staged_path, target_path}
+use Rattle.install_world.specs.InFlight.{AreAllDone, Files, HasFiles, HasFilesOf, HasJournal, HasSurroundings, IsDone, IsFinishedProject, IsGoing, IsInFlight, IsMoving, IsNotBegun, IsPart, IsPartDone, HasStagedParts, IsStagedPart, IsTakenAway, IsThere, NoJournal, PartInFlight, Placed, finished_by, finished_file, job_result, kept_path, part_at, staged_path, target_path}
 use Rattle.path_name.specs.Paths.{BeginsWith}
 use Rattle.install_world.specs.JournalText.{Says}
 use Rattle.install_world.specs.Targets.{IsTargetPath, lock_target, vendor_target}
@@ -194,7 +194,7 @@ all_done_is_new project surroundings old new t journal stands small flight tree 
 -- ---- how it begins
 
 pub staged_in_flight : (project : List (List ℕ)) (surroundings : FileTree) (old : Files) (puts : ℕ → Files) (t : FileTree) (journal : Journal) → HasJournal project t journal
-    → IsStagedJob project journal.targets puts t → HasFiles project t old → HasSurroundings project surroundings t
+    → HasStagedParts project journal.targets puts t → HasFiles project t old → HasSurroundings project surroundings t
     → IsInFlight project surroundings old (job_result project journal.targets puts old) t
 staged_in_flight project surroundings old puts t journal stands job has outside = record {
   outside = outside;

@@ -7,11 +7,14 @@ pub mod Grammar
 pub mod GrammarLines
 pub mod LineWords
 pub mod OneJournal
+pub mod PartDone
 pub mod PartMoves
 pub mod PartPaths
 pub mod PathBytes
 pub mod Places
 pub mod ReadJournal
 pub mod ReadTargets
+pub mod RemovalRules
+pub mod Segments
 pub mod TargetLines
 pub mod WayMoves

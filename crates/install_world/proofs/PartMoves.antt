@@ -205,10 +205,10 @@ moving_on project old new t now number target moving few part change now_part = 
 
 -- ---- the two moves
 
-renamed_elsewhere : (t : FileTree) (from to path : List (List ℕ)) → behind to path ≡ None → behind from path ≡ None → map.get (changed t (Renamed from to)) path ≡ map.get t path
+pub renamed_elsewhere : (t : FileTree) (from to path : List (List ℕ)) → behind to path ≡ None → behind from path ≡ None → map.get (changed t (Renamed from to)) path ≡ map.get t path
 renamed_elsewhere t from to path there here = get-changed t (Renamed from to) path ∙ rw (there, here) refl
 
-renamed_away : (t : FileTree) (from to path rest : List (List ℕ)) → behind to path ≡ None → behind from path ≡ Some rest → map.get (changed t (Renamed from to)) path ≡ None
+pub renamed_away : (t : FileTree) (from to path rest : List (List ℕ)) → behind to path ≡ None → behind from path ≡ Some rest → map.get (changed t (Renamed from to)) path ≡ None
 renamed_away t from to path rest there here = get-changed t (Renamed from to) path ∙ rw (there, here) refl
 
 renamed_here : (t : FileTree) (from to below : List (List ℕ)) → map.get (changed t (Renamed from to)) (to ++ below) ≡ map.get t (from ++ below)

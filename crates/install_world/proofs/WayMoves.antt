@@ -18,8 +18,8 @@ use Rattle.tree_dev.proofs.Images.{reading_is_image}
 use Rattle.tree_dev.proofs.Stretches.{through_ends, through_from, through_on}
 use Rattle.tree_dev.proofs.Whole.{reading_on, through_then_change, through_then_read}
 use Rattle.install_world.specs.InFlight.{HasJournal, IsInFlight, IsPart, IsThere, kept_path, staged_path, target_path}
-use Rattle.install_world.specs.Moving.{ArePlacesOf, IsOnWay, Way}
-use Rattle.install_world.specs.declared.moving.Places.{Places}
+use Rattle.install_world.specs.Moving.{ArePlaces, ChangesPlaces, IsOnWay, Way}
+use Rattle.install_world.specs.declared.moving.PartPlaces.{PartPlaces}
 use Rattle.install_world.specs.declared.target.Target.{Target}
 use Rattle.install_world.specs.Targets.{IsTargetPath}
 use Rattle.install_world.proofs.FlightLaws.{journal_entry_stays, part_target, putting_keeps, taking_keeps, target_under}
@@ -69,11 +69,11 @@ there_by_kind t at kind under is some = by (map.get t at) refl
 
 -- ---- the moves on the way
 
-module _ (way : Way) (number : ℕ) (target : Target) (places : Places) (are : ArePlacesOf way number target places) where
+module _ (way : Way) (number : ℕ) (target : Target) (places : PartPlaces) (are : ArePlaces way.project number target places) (part : IsPart way.journal.targets number target) where
   after_part : (t now : FileTree) → IsOnWay way t → ChangesPart way.project number target t now
       → IsInFlight way.project way.surroundings way.old way.new now → IsOnWay way now
   after_part t now on change flight =
-      let is = part_target way.project t way.journal on.stands number target are.part in
+      let is = part_target way.project t way.journal on.stands number target part in
       let entry = journal_entry_stays way.project t now number target is change in
       record {
         flight = flight;
@@ -90,11 +90,11 @@ module _ (way : Way) (number : ℕ) (target : Target) (places : Places) (are : A
   pub taken_on_way : (t : FileTree) → (target.gone ≡ true) ⊎ IsThere t places.staged → IsTrue (has_place t (changes.Renamed places.target places.kept)) → IsOnWay way t
       → IsOnWay way (changed t (changes.Renamed places.target places.kept))
   taken_on_way t why place on =
-      let is = part_target way.project t way.journal on.stands number target are.part in
+      let is = part_target way.project t way.journal on.stands number target part in
       subst (λ change. IsOnWay way (changed t change)) (sym take_is)
       (after_part t (changed t (changes.Renamed (target_path way.project target) (kept_path way.project number))) on
       (taking_changes_part way.project number target is t)
-      (taking_keeps way.project way.surroundings way.old way.new t way.journal on.stands (on.small on.stands.text on.stands.there) on.flight number target are.part (by is why)))
+      (taking_keeps way.project way.surroundings way.old way.new t way.journal on.stands (on.small on.stands.text on.stands.there) on.flight number target part (by is why)))
     where
       by : IsTargetPath target.path → (target.gone ≡ true) ⊎ IsThere t places.staged
           → (target.gone ≡ true) ⊎ (IsThere t (staged_path way.project number) × IsThere t (target_path way.project target))
@@ -108,11 +108,11 @@ module _ (way : Way) (number : ℕ) (target : Target) (places : Places) (are : A
   pub put_on_way : (t : FileTree) → target.gone ≡ false → IsTrue (has_place t (changes.Renamed places.staged places.target)) → IsOnWay way t
       → IsOnWay way (changed t (changes.Renamed places.staged places.target))
   put_on_way t stays place on =
-      let is = part_target way.project t way.journal on.stands number target are.part in
+      let is = part_target way.project t way.journal on.stands number target part in
       subst (λ change. IsOnWay way (changed t change)) (sym put_is)
       (after_part t (changed t (changes.Renamed (staged_path way.project number) (target_path way.project target))) on
       (putting_changes_part way.project number target is t)
-      (putting_keeps way.project way.surroundings way.old way.new t way.journal on.stands (on.small on.stands.text on.stands.there) on.flight number target are.part stays
+      (putting_keeps way.project way.surroundings way.old way.new t way.journal on.stands (on.small on.stands.text on.stands.there) on.flight number target part stays
       (from_is_there t (staged_path way.project number) (target_path way.project target) (staged_under way.project number)
       (subst (λ change. IsTrue (has_place t change)) put_is place))))
 

@@ -22,6 +22,10 @@ Files = List (List ℕ) → Option (List ℕ)
 abbrev pub old_path : List (List ℕ) → List (List ℕ)
 old_path project = project ++ (codes ".install" ∷ codes "old" ∷ [])
 
+-- where the journal's text is written before it is given its name
+abbrev pub draft_path : List (List ℕ) → List (List ℕ)
+draft_path project = project ++ (codes ".install" ∷ codes "journal.tmp" ∷ [])
+
 abbrev pub staged_path : List (List ℕ) → ℕ → List (List ℕ)
 staged_path project number = project ++ (codes ".install" ∷ codes "new" ∷ decimal_text number ∷ [])
 
@@ -171,11 +175,17 @@ IsStagedSource false project puts number t =
     × ((below : List (List ℕ)) → file_at t (staged_path project number ++ below) ≡ puts number below)
 
 -- Each part is staged, `.install/old` is a folder without entries, and a folder stands above each target.
-pub record IsStagedJob (project : List (List ℕ)) (targets : List Target) (puts : ℕ → Files) (t : FileTree) : Type 0 where
+pub record HasStagedParts (project : List (List ℕ)) (targets : List Target) (puts : ℕ → Files) (t : FileTree) : Type 0 where
   pub staged : (number : ℕ) (target : Target) → IsPart targets number target → IsStagedSource target.gone project puts number t
   pub old_folder : is_folder (entry_at t (old_path project)) ≡ true
   pub old_empty : (name : List ℕ) → map.get t (old_path project ++ name ∷ []) ≡ None
   pub parents : (number : ℕ) (target : Target) → IsPart targets number target → has_folder t (without_last (target_path project target)) ≡ true
+
+-- A job that is staged whole, and whose journal is not yet written, not even in part.
+pub record IsStagedJob (project : List (List ℕ)) (targets : List Target) (puts : ℕ → Files) (t : FileTree) : Type 0 where
+  pub parts : HasStagedParts project targets puts t
+  pub no_journal : NoJournal project t
+  pub no_draft : map.get t (draft_path project) ≡ None
 
 -- ---- parts that are done
 

@@ -4,3 +4,4 @@ pub mod JournalText
 pub mod Reading
 pub mod InFlight
 pub mod Moving
+pub mod Removals

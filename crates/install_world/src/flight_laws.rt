@@ -6,14 +6,14 @@ ghost use Rattle.tree_dev.specs.Trees.{FileTree, IsTree};
 ghost use Rattle.tree_dev.specs.Changes.{changed};
 ghost use Rattle.tree_dev.specs.Projects.{is_project_part};
 ghost use Rattle.tree_dev.specs.declared.change.Change.TheVariants as changes;
-ghost use Rattle.install_world.specs.InFlight.{Files, IsPart, IsThere, HasFiles, HasFilesOf, HasJournal, HasSurroundings, NoJournal, IsInFlight, IsFinishedProject, IsStagedJob, AreAllDone, finished_by, job_result, kept_path, staged_path, target_path};
+ghost use Rattle.install_world.specs.InFlight.{Files, IsPart, IsThere, HasFiles, HasFilesOf, HasJournal, HasSurroundings, NoJournal, IsInFlight, IsFinishedProject, HasStagedParts, AreAllDone, finished_by, job_result, kept_path, staged_path, target_path};
 ghost use Rattle.install_world.specs.declared.journal.Journal.{Journal as Journals};
 ghost use Rattle.install_world.specs.declared.target.Target.{Target as Targets};
 
 /// A job that is staged whole, and whose journal stands, is in flight from the project that stands to what it makes of it.
 pub fn staged_jobs_are_in_flight()
     ensures { (project : List (List ℕ)) (surroundings : FileTree) (old : Files) (puts : ℕ → Files) (t : FileTree) (journal : Journals)
-        → HasJournal project t journal → IsStagedJob project journal.targets puts t → HasFiles project t old → HasSurroundings project surroundings t
+        → HasJournal project t journal → HasStagedParts project journal.targets puts t → HasFiles project t old → HasSurroundings project surroundings t
         → IsInFlight project surroundings old (job_result project journal.targets puts old) t }
 {}
 

@@ -1,19 +1,22 @@
 //! One part of a job, moved to its target.
 
-ghost use Rattle.std.specs.Prelude.{◌≡◌, ℕ, true, false};
-ghost use Rattle.tree_dev.specs.Device.{OfTold, Rose};
+ghost use Rattle.std.specs.Prelude.{◌≡◌, ℕ, List, true, false, IfOk, None, is_err};
+ghost use Rattle.std.specs.FinMap as map;
+ghost use Rattle.tree_dev.specs.Device.{OfTold};
+ghost use Rattle.tree_dev.specs.Disk.{reading};
 ghost use Rattle.tree_dev.specs.Steady.{EachImage, IsWhole, Through};
-ghost use Rattle.install_world.specs.InFlight.{IsThere};
-ghost use Rattle.install_world.specs.Moving.{Way, IsOnWay, ArePlacesOf};
+ghost use Rattle.tree_dev.specs.declared.did.Did.TheVariants as dids;
+ghost use Rattle.install_world.specs.InFlight.{IsPart, IsPartDone, IsThere, staged_path, target_path};
+ghost use Rattle.install_world.specs.Moving.{Way, IsOnWay, ArePlaces, ChangesPlaces};
+ghost use Rattle.install_world.specs.Removals.{WritesNone};
 ghost use Rattle.install_world.specs.declared.target.Target.{Target as Targets};
-ghost use Rattle.std.specs.Prelude.{OnErr};
 
 use path_name::Path;
 use tree_dev::{Did, Failed, Kind, Tree};
 
 /// Where a part of a job stands in the tree that holds its project.
 #[derive(Debug, Drop)]
-pub struct Places {
+pub struct PartPlaces {
     /// Where the part goes.
     pub target: Path,
     /// Where it stands staged, `.install/new/K`.
@@ -23,12 +26,14 @@ pub struct Places {
 }
 
 /// Takes away what stands at the target of a part that is to be gone. Misplaced: it can't go where it is kept.
-fn take_away<T: Tree>(tree: &mut T, places: &Places) -> Result<Did, Failed>
-    requires whole { IsWhole (T.meaning tree.old).disks.now }
-    ensures whole { IsWhole (T.meaning tree.new).disks.now }
-    ensures through { (way : Way) (number : ℕ) (target : Targets) → ArePlacesOf way number target places.now → target.gone ≡ true
-        → EachImage (T.meaning tree.old) (IsOnWay way) → Through (T.meaning tree.old) (T.meaning tree.new) (IsOnWay way) }
-    ensures device { OnErr result (Rose (T.meaning tree.old).faults (T.meaning tree.new).faults) }
+fn take_away<T: Tree>(tree: &mut T, places: &PartPlaces) -> Result<Did, Failed>
+    ensures writes_none { WritesNone (T.meaning tree.old) (T.meaning tree.new) (is_err result) }
+    ensures moves { ChangesPlaces places.now (reading (T.meaning tree.old).disks.now) (reading (T.meaning tree.new).disks.now) }
+    ensures through { OfTold (T.meaning tree.old) (λ t. IsWhole (T.meaning tree.old).disks.now → (way : Way) (number : ℕ) (target : Targets)
+        → ArePlaces way.project number target places.now → IsPart way.journal.targets number target → target.gone ≡ true
+        → EachImage (T.meaning tree.old) (IsOnWay way) → Through (T.meaning tree.old) (T.meaning tree.new) (IsOnWay way)) }
+    ensures done { IfOk result (λ did. did ≡ dids.Done → OfTold (T.meaning tree.old) (λ t. (project : List (List ℕ)) (number : ℕ) (target : Targets)
+        → ArePlaces project number target places.now → map.get (reading (T.meaning tree.new).disks.now) (target_path project target) ≡ None)) }
 {
     match tree.stat(&places.target)? {
         Kind::Absent => Ok(Did::Done),
@@ -37,12 +42,12 @@ fn take_away<T: Tree>(tree: &mut T, places: &Places) -> Result<Did, Failed>
 }
 
 /// Takes away what stands at the target of a part that is staged, but for a file that a file is to replace.
-fn make_way<T: Tree>(tree: &mut T, places: &Places, staged_is_file: bool) -> Result<Did, Failed>
-    requires whole { IsWhole (T.meaning tree.old).disks.now }
-    ensures whole { IsWhole (T.meaning tree.new).disks.now }
-    ensures through { OfTold (T.meaning tree.old) (λ t. (way : Way) (number : ℕ) (target : Targets) → ArePlacesOf way number target places.now
-        → IsThere t places.now.staged → EachImage (T.meaning tree.old) (IsOnWay way) → Through (T.meaning tree.old) (T.meaning tree.new) (IsOnWay way)) }
-    ensures device { OnErr result (Rose (T.meaning tree.old).faults (T.meaning tree.new).faults) }
+fn make_way<T: Tree>(tree: &mut T, places: &PartPlaces, staged_is_file: bool) -> Result<Did, Failed>
+    ensures writes_none { WritesNone (T.meaning tree.old) (T.meaning tree.new) (is_err result) }
+    ensures moves { ChangesPlaces places.now (reading (T.meaning tree.old).disks.now) (reading (T.meaning tree.new).disks.now) }
+    ensures through { OfTold (T.meaning tree.old) (λ t. IsWhole (T.meaning tree.old).disks.now → (way : Way) (number : ℕ) (target : Targets)
+        → ArePlaces way.project number target places.now → IsPart way.journal.targets number target → IsThere t places.now.staged
+        → EachImage (T.meaning tree.old) (IsOnWay way) → Through (T.meaning tree.old) (T.meaning tree.new) (IsOnWay way)) }
 {
     match tree.stat(&places.target)? {
         Kind::Absent => Ok(Did::Done),
@@ -52,12 +57,14 @@ fn make_way<T: Tree>(tree: &mut T, places: &Places, staged_is_file: bool) -> Res
 }
 
 /// Puts what is staged at its target.
-fn put<T: Tree>(tree: &mut T, places: &Places, staged_is_file: bool) -> Result<Did, Failed>
-    requires whole { IsWhole (T.meaning tree.old).disks.now }
-    ensures whole { IsWhole (T.meaning tree.new).disks.now }
-    ensures through { OfTold (T.meaning tree.old) (λ t. (way : Way) (number : ℕ) (target : Targets) → ArePlacesOf way number target places.now → target.gone ≡ false
-        → IsThere t places.now.staged → EachImage (T.meaning tree.old) (IsOnWay way) → Through (T.meaning tree.old) (T.meaning tree.new) (IsOnWay way)) }
-    ensures device { OnErr result (Rose (T.meaning tree.old).faults (T.meaning tree.new).faults) }
+fn put<T: Tree>(tree: &mut T, places: &PartPlaces, staged_is_file: bool) -> Result<Did, Failed>
+    ensures writes_none { WritesNone (T.meaning tree.old) (T.meaning tree.new) (is_err result) }
+    ensures moves { ChangesPlaces places.now (reading (T.meaning tree.old).disks.now) (reading (T.meaning tree.new).disks.now) }
+    ensures through { OfTold (T.meaning tree.old) (λ t. IsWhole (T.meaning tree.old).disks.now → (way : Way) (number : ℕ) (target : Targets)
+        → ArePlaces way.project number target places.now → IsPart way.journal.targets number target → target.gone ≡ false → IsThere t places.now.staged
+        → EachImage (T.meaning tree.old) (IsOnWay way) → Through (T.meaning tree.old) (T.meaning tree.new) (IsOnWay way)) }
+    ensures done { IfOk result (λ did. did ≡ dids.Done → OfTold (T.meaning tree.old) (λ t. (project : List (List ℕ)) (number : ℕ) (target : Targets)
+        → ArePlaces project number target places.now → map.get (reading (T.meaning tree.new).disks.now) (staged_path project number) ≡ None)) }
 {
     match make_way(tree, places, staged_is_file)? {
         Did::Misplaced => Ok(Did::Misplaced),
@@ -68,12 +75,18 @@ fn put<T: Tree>(tree: &mut T, places: &Places, staged_is_file: bool) -> Result<D
 /// Moves a part: what stands at its target is taken away, unless a file is to replace a file, and what is staged is put
 /// there. A part whose target is to be gone is taken away alone, and one of which nothing is staged is left as it is. At
 /// most four calls. Misplaced: the tree has no place for a move, and the moves behind it are not made.
-pub fn move_part<T: Tree>(tree: &mut T, places: &Places, gone: bool) -> Result<Did, Failed>
-    requires whole { IsWhole (T.meaning tree.old).disks.now }
-    ensures whole { IsWhole (T.meaning tree.new).disks.now }
-    ensures through { OfTold (T.meaning tree.old) (λ t. (way : Way) (number : ℕ) (target : Targets) → ArePlacesOf way number target places.now → target.gone ≡ gone
+pub fn move_part<T: Tree>(tree: &mut T, places: &PartPlaces, gone: bool) -> Result<Did, Failed>
+    // No file is written. The count of faults has not fallen, and rose where the device failed.
+    ensures writes_none { WritesNone (T.meaning tree.old) (T.meaning tree.new) (is_err result) }
+    // Only at and below the three places does the tree change.
+    ensures moves { ChangesPlaces places.now (reading (T.meaning tree.old).disks.now) (reading (T.meaning tree.new).disks.now) }
+    // Whatever a crash may leave on the way stays in flight, by the same journal.
+    ensures through { OfTold (T.meaning tree.old) (λ t. IsWhole (T.meaning tree.old).disks.now → (way : Way) (number : ℕ) (target : Targets)
+        → ArePlaces way.project number target places.now → IsPart way.journal.targets number target → target.gone ≡ gone
         → EachImage (T.meaning tree.old) (IsOnWay way) → Through (T.meaning tree.old) (T.meaning tree.new) (IsOnWay way)) }
-    ensures device { OnErr result (Rose (T.meaning tree.old).faults (T.meaning tree.new).faults) }
+    // After Done the part is done.
+    ensures done { IfOk result (λ did. did ≡ dids.Done → OfTold (T.meaning tree.old) (λ t. (project : List (List ℕ)) (number : ℕ) (target : Targets)
+        → ArePlaces project number target places.now → IsPartDone gone project number target (reading (T.meaning tree.new).disks.now))) }
 {
     if gone {
         return take_away(tree, places);

@@ -1,26 +1,72 @@
-use Rattle.std.proofs.Common.{◌∙◌, ap}
+use Rattle.std.proofs.Common.{◌∙◌, ap, sym, subst}
+use Rattle.std.proofs.lemmas.Result.{IfOk-weaker}
 use Rattle.tree_dev.specs.Changes.{is_root}
+use Rattle.tree_dev.specs.Disk.{reading}
 use Rattle.tree_dev.proofs.Stretches.{through_then_through}
+use Rattle.tree_dev.proofs.Whole.{whole_then_read}
+use Rattle.install_world.specs.InFlight.{IsPartDone}
 use Rattle.install_world.specs.Moving.{IsOnWay}
+use Rattle.install_world.proofs.PartDone.{absent_staged, places_on, places_read, places_start}
+use Rattle.install_world.proofs.RemovalRules.{writes_none_on, writes_none_read, writes_none_start}
 use Rattle.install_world.proofs.WayMoves.{read_through, staged_under, there_by_kind}
 use Rattle.install_world.proofs.moving.move_part.Goals as goal
 
 pub returns-then-gone-clause-through : goal.returns-then-gone-clause-through
-returns-then-gone-clause-through g c = λ t told way number target are is each.
-    c.take_away.ensures.through way number target are (is ∙ c.if-gone.true) each
+returns-then-gone-clause-through g c = λ t told whole way number target are part is each.
+    c.take_away.ensures.through t told whole way number target are part (is ∙ c.if-gone.true) each
+
+pub returns-then-gone-clause-done : goal.returns-then-gone-clause-done
+returns-then-gone-clause-done g c = IfOk-weaker c.take_away.result _ _
+    (λ did gone is t told project number target are.
+    subst (λ mark. IsPartDone mark project number target (reading (g.T.Tree.meaning c.take_away.new.tree).disks.now)) (sym c.if-gone.true)
+    (gone is t told project number target are))
+    c.take_away.ensures.done
+
+pub returns-in_err-stat-clause-writes_none : goal.returns-in_err-stat-clause-writes_none
+returns-in_err-stat-clause-writes_none g c = writes_none_read _ _ _ _ c.in_err-stat.ensures.only_read (writes_none_start _)
+
+pub returns-in_err-stat-clause-moves : goal.returns-in_err-stat-clause-moves
+returns-in_err-stat-clause-moves g c = places_read c.args.places.now _ _ _ _ c.stat.ensures.only_read (places_start c.args.places.now _)
 
 pub returns-in_err-stat-clause-through : goal.returns-in_err-stat-clause-through
-returns-in_err-stat-clause-through g c = λ t told way number target are is each.
-    read_through way number target c.args.places.now are _ _ _ c.stat.ensures.only_read each
+returns-in_err-stat-clause-through g c = λ t told whole way number target are part is each.
+    read_through way number target c.args.places.now are part _ _ _ c.stat.ensures.only_read each
+
+pub returns-in-Absent-clause-writes_none : goal.returns-in-Absent-clause-writes_none
+returns-in-Absent-clause-writes_none g c = writes_none_read _ _ _ _ c.in_ok-stat.ensures.only_read (writes_none_start _)
+
+pub returns-in-Absent-clause-moves : goal.returns-in-Absent-clause-moves
+returns-in-Absent-clause-moves g c = places_read c.args.places.now _ _ _ _ c.stat.ensures.only_read (places_start c.args.places.now _)
 
 pub returns-in-Absent-clause-through : goal.returns-in-Absent-clause-through
-returns-in-Absent-clause-through g c = λ t told way number target are is each.
-    read_through way number target c.args.places.now are _ _ _ c.stat.ensures.only_read each
+returns-in-Absent-clause-through g c = λ t told whole way number target are part is each.
+    read_through way number target c.args.places.now are part _ _ _ c.stat.ensures.only_read each
+
+pub returns-in-Absent-clause-done : goal.returns-in-Absent-clause-done
+returns-in-Absent-clause-done g c = λ done t told project number target are.
+    subst (λ mark. IsPartDone mark project number target (reading (g.T.Tree.meaning c.stat.new.self).disks.now)) (sym c.if-gone.false)
+    (absent_staged project number target c.args.places.now are _ _ t _ c.in_ok-stat.field-0 (g.T.Tree.tells_its_disk c.args.tree.now t told)
+    c.stat.ensures.only_read (c.in_ok-stat.ensures.kind t told) c.in-Absent.is)
+
+pub returns-in_default-clause-writes_none : goal.returns-in_default-clause-writes_none
+returns-in_default-clause-writes_none g c =
+    writes_none_on _ _ _ _ c.put.ensures.writes_none (writes_none_read _ _ _ _ c.in_ok-stat.ensures.only_read (writes_none_start _))
+
+pub returns-in_default-clause-moves : goal.returns-in_default-clause-moves
+returns-in_default-clause-moves g c =
+    places_on c.args.places.now _ _ _ c.put.ensures.moves (places_read c.args.places.now _ _ _ _ c.stat.ensures.only_read (places_start c.args.places.now _))
 
 pub returns-in_default-clause-through : goal.returns-in_default-clause-through
-returns-in_default-clause-through g c = λ t told way number target are is each.
+returns-in_default-clause-through g c = λ t told whole way number target are part is each.
     through_then_through (IsOnWay way) _ _ _
-    (c.put.ensures.through t (c.stat.ensures.only_read.told ∙ told) way number target are (is ∙ c.if-gone.false)
+    (c.put.ensures.through t (c.stat.ensures.only_read.told ∙ told) (whole_then_read _ _ _ c.stat.ensures.only_read whole) way number target are part (is ∙ c.if-gone.false)
     (there_by_kind t c.args.places.now.staged c.in_ok-stat.field-0 (ap is_root are.staged_is ∙ staged_under way.project number)
     (c.in_ok-stat.ensures.kind t told) c.in_default.not-Absent))
-    (read_through way number target c.args.places.now are _ _ _ c.stat.ensures.only_read each)
+    (read_through way number target c.args.places.now are part _ _ _ c.stat.ensures.only_read each)
+
+pub returns-in_default-clause-done : goal.returns-in_default-clause-done
+returns-in_default-clause-done g c = IfOk-weaker c.put.result _ _
+    (λ did gone is t told project number target are.
+    subst (λ mark. IsPartDone mark project number target (reading (g.T.Tree.meaning c.put.new.tree).disks.now)) (sym c.if-gone.false)
+    (gone is t (c.stat.ensures.only_read.told ∙ told) project number target are))
+    c.put.ensures.done

@@ -1,7 +1,33 @@
+use Rattle.std.proofs.Common.{refl}
+use Rattle.std.proofs.lemmas.Result.{IfOk-weaker}
+use Rattle.install_world.proofs.PartDone.{places_put, put_is_done, told_still}
+use Rattle.install_world.proofs.RemovalRules.{cause_of, writes_none_change}
 use Rattle.install_world.proofs.WayMoves.{put_through}
 use Rattle.install_world.proofs.moving.put.Goals as goal
 
+pub returns-in_err-make_way-clause-through : goal.returns-in_err-make_way-clause-through
+returns-in_err-make_way-clause-through g c = λ t told whole way number target are part stays there each.
+    c.make_way.ensures.through t told whole way number target are part there each
+
+pub returns-in-Misplaced-clause-through : goal.returns-in-Misplaced-clause-through
+returns-in-Misplaced-clause-through g c = λ t told whole way number target are part stays there each.
+    c.make_way.ensures.through t told whole way number target are part there each
+
+pub returns-in-Done-clause-writes_none : goal.returns-in-Done-clause-writes_none
+returns-in-Done-clause-writes_none g c =
+    writes_none_change _ _ _ _ _ c.rename.ensures.moments refl (cause_of c.rename.result c.rename.ensures.cause) c.in_ok-make_way.ensures.writes_none
+
+pub returns-in-Done-clause-moves : goal.returns-in-Done-clause-moves
+returns-in-Done-clause-moves g c = places_put c.args.places.now _ _ _ c.rename.ensures.moments c.make_way.ensures.moves
+
 pub returns-in-Done-clause-through : goal.returns-in-Done-clause-through
-returns-in-Done-clause-through g c = λ t told way number target are stays there each.
-    put_through way number target c.args.places.now are _ _ _ stays c.make_way.ensures.whole c.rename.ensures.moments
-    (c.make_way.ensures.through t told way number target are there each)
+returns-in-Done-clause-through g c = λ t told whole way number target are part stays there each.
+    put_through way number target c.args.places.now are part _ _ _ stays (c.make_way.ensures.writes_none.whole whole) c.rename.ensures.moments
+    (c.make_way.ensures.through t told whole way number target are part there each)
+
+pub returns-in-Done-clause-done : goal.returns-in-Done-clause-done
+returns-in-Done-clause-done g c = IfOk-weaker c.rename.result _ _
+    (λ did adds is t told project number target are.
+    let now = told_still _ _ t c.make_way.ensures.writes_none.tells told in
+    put_is_done project number target c.args.places.now are _ _ (adds is now.0 now.1))
+    c.rename.ensures.done
