@@ -1,14 +1,15 @@
 -- What goes on a stretch of calls that write nothing, and on one that removes entries below one path alone.
-use Rattle.std.proofs.Common.{◌≡◌, ◌≢◌, ℕ, ◌≤◌, ◌∷◌, ◌++◌, Bool, true, false, cond, List, Option, Some, None, is_some, refl, sym, ap, ◌∙◌, subst, inl, inr, arith}
+use Rattle.std.proofs.Common.{◌≡◌, ◌≢◌, ℕ, ◌≤◌, ◌∷◌, ◌++◌, Bool, true, false, cond, List, Option, Some, None, is_some, refl, sym, ap, ◌∙◌, subst, inl, inr, arith, append-nil, []}
 use Rattle.std.specs.Prelude.{◌⊎◌, IsTrue, Result, Ok, Err, OnErr, is_err}
 use Rattle.std.specs.Option.{option_map}
 use Rattle.std.specs.Ordering.{eq_by_cmp, is_eq}
 use Rattle.std.specs.FinMap as map
-use Rattle.path_name.specs.Orders.{path_cmp}
+use Rattle.std.proofs.lemmas.Cmp.{eq_by_cmp_equiv}
+use Rattle.path_name.specs.Orders.{path_cmp, path_cmp_total}
 use Rattle.tree_dev.specs.Trees.{FileTree, behind}
 use Rattle.tree_dev.specs.Changes.{IsTorn, changed}
 use Rattle.tree_dev.specs.Disk.{Disk, Disks, IsImage, IsLater, Leaves, LeftSince, WasImage, moment, reading, with_change}
-use Rattle.tree_dev.specs.Device.{Adds, AddsTorn, MayAdd, MaySettle, Meaning, OnlyRead, Rose, Stays}
+use Rattle.tree_dev.specs.Device.{Adds, AddsTorn, MayAdd, MaySettle, Meaning, OnlyRead, Rose, Stays, is_failed}
 use Rattle.tree_dev.specs.Projects.{is_within}
 use Rattle.tree_dev.specs.Steady.{EachImage, IsWhole, Through, is_write}
 use Rattle.tree_dev.specs.Told.{equal_paths}
@@ -21,7 +22,9 @@ use Rattle.tree_dev.proofs.Moments.{image_now, later_by_change, later_itself, la
 use Rattle.tree_dev.proofs.ProjectParts.{within_on}
 use Rattle.tree_dev.proofs.Stretches.{through_ends, through_on}
 use Rattle.tree_dev.proofs.Whole.{reading_on, whole_on, whole_then_barrier, whole_then_read}
-use Rattle.install_world.specs.Removals.{OnlyRemoved, Removes, WritesNone}
+use Rattle.tree_dev.specs.declared.fault.TreeFault.{TreeFault}
+use Rattle.tree_dev.specs.declared.fault.TreeFault.TheVariants as tree_faults
+use Rattle.install_world.specs.Removals.{OnlyRemoved, Removes, WritesNone, fault_of_tree, is_device_fault}
 
 -- ---- calls that write nothing
 
@@ -225,3 +228,32 @@ through_removes P at keeps a b d removes run =
 pub cause_of : {X E P : Type 0} (r : Result X E) → OnErr r P → IsTrue (is_err r) → P
 cause_of (Ok x) cause failed = absurd cc
 cause_of (Err e) cause failed = cause
+
+pub within_itself : (at : List (List ℕ)) → is_within at at ≡ true
+within_itself at = ap (is_within at) (sym (append-nil at)) ∙ within_head at []
+
+removed_here : (q : List (List ℕ)) (t : FileTree) → map.get (changed t (changes.FolderRemoved q)) q ≡ None
+removed_here q t = get-changed t (changes.FolderRemoved q) q ∙ ap (λ same. cond same None (map.get t q)) ((eq_by_cmp_equiv path_cmp_total).refl q)
+
+-- after the folder was removed nothing is there
+pub folder_is_gone : (q : List (List ℕ)) (b d : Meaning) (u : FileTree) → MayAdd b d (changes.FolderRemoved q) → d.told ≡ Some u
+    → ((t : FileTree) → b.told ≡ Some t → Adds b d (changes.FolderRemoved q)) → map.get u q ≡ None
+folder_is_gone q b d u may told done = by b.told refl
+  where
+    by : (before : Option FileTree) → b.told ≡ before → map.get u q ≡ None
+    by None e =
+        let none : is_some b.told ≡ false = ap is_some e in
+        let some : is_some d.told ≡ true = ap is_some told in
+        let same = change_tells b d (changes.FolderRemoved q) may in
+        absurd cc
+    by (Some t) e =
+        let adds = done t e in
+        let now : Some u ≡ Some (changed t (changes.FolderRemoved q)) =
+        sym told ∙ adds.told ∙ ap (option_map (λ (w : FileTree). changed w (changes.FolderRemoved q))) e in
+        let same : u ≡ changed t (changes.FolderRemoved q) = cc in
+        ap (λ (w : FileTree). map.get w q) same ∙ removed_here q t
+
+-- a failure of the device stays one
+pub writes_none_failing : (X Y : Type 0) (a b : Meaning) (fault : TreeFault) → WritesNone a b (is_failed {X = X} (Err fault)) → WritesNone a b (is_device_fault {X = Y} (Err (fault_of_tree fault)))
+writes_none_failing X Y a b tree_faults.Failed is = is
+writes_none_failing X Y a b tree_faults.OutOfMemory is = is

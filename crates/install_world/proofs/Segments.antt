@@ -1,6 +1,6 @@
 -- The names of entries in `.install` are segments of paths.
-use Rattle.std.proofs.Common.{◌≡◌, ℕ, ◌<◌, ◌≤◌, ◌^◌, Bool, true, false, List, [], ◌∷◌, length, codes, refl, sym, ap, ◌∙◌, arith, rules}
-use Rattle.std.specs.Prelude.{not, ◌==◌}
+use Rattle.std.proofs.Common.{◌≡◌, ℕ, ◌<◌, ◌≤◌, ◌^◌, Bool, true, false, zero, suc, List, [], ◌∷◌, length, get_or, subst, codes, refl, sym, ap, ◌∙◌, arith, rules}
+use Rattle.std.specs.Prelude.{not, ◌==◌, IsTrue}
 use Rattle.std.specs.List.{list_all}
 use Rattle.std.specs.Str.{is_utf8, chars}
 use Rattle.std.proofs.lemmas.Bool.Decides.{nat_tests}
@@ -71,3 +71,11 @@ old_segment = refl
 pub journal_segment : is_segment (codes "journal") ≡ true
 unfolding is_utf8 chars lib.Utf8.encode
 journal_segment = refl
+
+-- each of several segments is one
+pub segment_at : (names : List (List ℕ)) (i : ℕ) (name : List ℕ) → IsTrue (list_all is_segment names) → i < length names → name ≡ get_or names i name → IsTrue (is_segment name)
+segment_at [] i name all below is = absurd (omega arith)
+segment_at (first ∷ rest) zero name all below is =
+    subst (λ n. IsTrue (is_segment n)) (sym is) (both_true (is_segment first) (list_all is_segment rest) all).0
+segment_at (first ∷ rest) (suc i) name all below is =
+    segment_at rest i name (both_true (is_segment first) (list_all is_segment rest) all).1 (omega arith) is

@@ -1,4 +1,5 @@
 use Rattle.std.proofs.Common.{refl}
+use Rattle.std.proofs.lemmas.Result.{err_from_is_err_and}
 use Rattle.tree_dev.proofs.Whole.{whole_then_read}
 use Rattle.install_world.proofs.PartDone.{places_read, places_start, places_take}
 use Rattle.install_world.proofs.RemovalRules.{cause_of, writes_none_change, writes_none_read, writes_none_start}
@@ -6,7 +7,9 @@ use Rattle.install_world.proofs.WayMoves.{read_through, take_through, told_there
 use Rattle.install_world.proofs.moving.make_way.Goals as goal
 
 pub returns-in_err-stat-clause-writes_none : goal.returns-in_err-stat-clause-writes_none
-returns-in_err-stat-clause-writes_none g c = writes_none_read _ _ _ _ c.in_err-stat.ensures.only_read (writes_none_start _)
+returns-in_err-stat-clause-writes_none g c =
+    let p = err_from_is_err_and c.from_residual.result c.from_residual.ensures.1 in
+    rw p.1 (writes_none_read _ _ _ _ c.in_err-stat.ensures.only_read (writes_none_start _))
 
 pub returns-in_err-stat-clause-moves : goal.returns-in_err-stat-clause-moves
 returns-in_err-stat-clause-moves g c = places_read c.args.places.now _ _ _ _ c.stat.ensures.only_read (places_start c.args.places.now _)
@@ -25,6 +28,10 @@ pub returns-in-Absent-clause-through : goal.returns-in-Absent-clause-through
 returns-in-Absent-clause-through g c = λ t told whole way number target are part there each.
     read_through way number target c.args.places.now are part _ _ _ c.stat.ensures.only_read each
 
+pub returns-in-File-clause-through : goal.returns-in-File-clause-through
+returns-in-File-clause-through g c = λ t told whole way number target are part there each.
+    read_through way number target c.args.places.now are part _ _ _ c.stat.ensures.only_read each
+
 pub returns-in_default-clause-writes_none : goal.returns-in_default-clause-writes_none
 returns-in_default-clause-writes_none g c =
     writes_none_change _ _ _ _ _ c.rename.ensures.moments refl (cause_of c.rename.result c.rename.ensures.cause)
@@ -37,6 +44,6 @@ returns-in_default-clause-moves g c =
 pub returns-in_default-clause-through : goal.returns-in_default-clause-through
 returns-in_default-clause-through g c = λ t told whole way number target are part there each.
     take_through way number target c.args.places.now are part _ _ _
-    (told_there _ _ _ t c.args.places.now.staged c.stat.ensures.only_read (g.T.Tree.tells_its_disk c.args.tree.now t told) there)
+    (told_there _ _ _ t c.args.places.now.staged c.stat.ensures.only_read (g.met.T.Tree.tells_its_disk c.args.tree.now t told) there)
     (whole_then_read _ _ _ c.stat.ensures.only_read whole) c.rename.ensures.moments
     (read_through way number target c.args.places.now are part _ _ _ c.stat.ensures.only_read each)

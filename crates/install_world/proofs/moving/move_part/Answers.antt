@@ -1,5 +1,5 @@
 use Rattle.std.proofs.Common.{◌∙◌, ap, sym, subst}
-use Rattle.std.proofs.lemmas.Result.{IfOk-weaker}
+use Rattle.std.proofs.lemmas.Result.{IfOk-weaker, err_from_is_err_and}
 use Rattle.tree_dev.specs.Changes.{is_root}
 use Rattle.tree_dev.specs.Disk.{reading}
 use Rattle.tree_dev.proofs.Stretches.{through_then_through}
@@ -22,18 +22,20 @@ returns-then-gone-clause-done g c = IfOk-weaker c.take_away.result _ _
     (gone is t told project number target are))
     c.take_away.ensures.done
 
-pub returns-in_err-stat-clause-writes_none : goal.returns-in_err-stat-clause-writes_none
-returns-in_err-stat-clause-writes_none g c = writes_none_read _ _ _ _ c.in_err-stat.ensures.only_read (writes_none_start _)
+pub returns-in_err-staged-clause-writes_none : goal.returns-in_err-staged-clause-writes_none
+returns-in_err-staged-clause-writes_none g c =
+    let p = err_from_is_err_and c.from_residual.result c.from_residual.ensures.1 in
+    rw p.1 (writes_none_read _ _ _ _ c.in_err-staged.ensures.only_read (writes_none_start _))
 
-pub returns-in_err-stat-clause-moves : goal.returns-in_err-stat-clause-moves
-returns-in_err-stat-clause-moves g c = places_read c.args.places.now _ _ _ _ c.stat.ensures.only_read (places_start c.args.places.now _)
+pub returns-in_err-staged-clause-moves : goal.returns-in_err-staged-clause-moves
+returns-in_err-staged-clause-moves g c = places_read c.args.places.now _ _ _ _ c.stat.ensures.only_read (places_start c.args.places.now _)
 
-pub returns-in_err-stat-clause-through : goal.returns-in_err-stat-clause-through
-returns-in_err-stat-clause-through g c = λ t told whole way number target are part is each.
+pub returns-in_err-staged-clause-through : goal.returns-in_err-staged-clause-through
+returns-in_err-staged-clause-through g c = λ t told whole way number target are part is each.
     read_through way number target c.args.places.now are part _ _ _ c.stat.ensures.only_read each
 
 pub returns-in-Absent-clause-writes_none : goal.returns-in-Absent-clause-writes_none
-returns-in-Absent-clause-writes_none g c = writes_none_read _ _ _ _ c.in_ok-stat.ensures.only_read (writes_none_start _)
+returns-in-Absent-clause-writes_none g c = writes_none_read _ _ _ _ c.in_ok-staged.ensures.only_read (writes_none_start _)
 
 pub returns-in-Absent-clause-moves : goal.returns-in-Absent-clause-moves
 returns-in-Absent-clause-moves g c = places_read c.args.places.now _ _ _ _ c.stat.ensures.only_read (places_start c.args.places.now _)
@@ -45,12 +47,12 @@ returns-in-Absent-clause-through g c = λ t told whole way number target are par
 pub returns-in-Absent-clause-done : goal.returns-in-Absent-clause-done
 returns-in-Absent-clause-done g c = λ done t told project number target are.
     subst (λ mark. IsPartDone mark project number target (reading (g.T.Tree.meaning c.stat.new.self).disks.now)) (sym c.if-gone.false)
-    (absent_staged project number target c.args.places.now are _ _ t _ c.in_ok-stat.field-0 (g.T.Tree.tells_its_disk c.args.tree.now t told)
-    c.stat.ensures.only_read (c.in_ok-stat.ensures.kind t told) c.in-Absent.is)
+    (absent_staged project number target c.args.places.now are _ _ t _ c.in_ok-staged.staged (g.met.T.Tree.tells_its_disk c.args.tree.now t told)
+    c.stat.ensures.only_read (c.in_ok-staged.ensures.kind t told) c.in-Absent.is)
 
 pub returns-in_default-clause-writes_none : goal.returns-in_default-clause-writes_none
 returns-in_default-clause-writes_none g c =
-    writes_none_on _ _ _ _ c.put.ensures.writes_none (writes_none_read _ _ _ _ c.in_ok-stat.ensures.only_read (writes_none_start _))
+    writes_none_on _ _ _ _ c.put.ensures.writes_none (writes_none_read _ _ _ _ c.in_ok-staged.ensures.only_read (writes_none_start _))
 
 pub returns-in_default-clause-moves : goal.returns-in_default-clause-moves
 returns-in_default-clause-moves g c =
@@ -60,8 +62,8 @@ pub returns-in_default-clause-through : goal.returns-in_default-clause-through
 returns-in_default-clause-through g c = λ t told whole way number target are part is each.
     through_then_through (IsOnWay way) _ _ _
     (c.put.ensures.through t (c.stat.ensures.only_read.told ∙ told) (whole_then_read _ _ _ c.stat.ensures.only_read whole) way number target are part (is ∙ c.if-gone.false)
-    (there_by_kind t c.args.places.now.staged c.in_ok-stat.field-0 (ap is_root are.staged_is ∙ staged_under way.project number)
-    (c.in_ok-stat.ensures.kind t told) c.in_default.not-Absent))
+    (there_by_kind t c.args.places.now.staged c.in_ok-staged.staged (ap is_root are.staged_is ∙ staged_under way.project number)
+    (c.in_ok-staged.ensures.kind t told) c.in_default.not-Absent))
     (read_through way number target c.args.places.now are part _ _ _ c.stat.ensures.only_read each)
 
 pub returns-in_default-clause-done : goal.returns-in_default-clause-done

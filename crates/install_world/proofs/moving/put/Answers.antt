@@ -28,6 +28,6 @@ returns-in-Done-clause-through g c = λ t told whole way number target are part 
 pub returns-in-Done-clause-done : goal.returns-in-Done-clause-done
 returns-in-Done-clause-done g c = IfOk-weaker c.rename.result _ _
     (λ did adds is t told project number target are.
-    let now = told_still _ _ t c.make_way.ensures.writes_none.tells told in
-    put_is_done project number target c.args.places.now are _ _ (adds is now.0 now.1))
+    let now = told_still (g.T.Tree.meaning c.args.tree.now) (g.T.Tree.meaning c.make_way.new.tree) t c.make_way.ensures.writes_none.tells told in
+    put_is_done project number target c.args.places.now are (g.T.Tree.meaning c.make_way.new.tree) (g.T.Tree.meaning c.rename.new.self) (adds is now.0 now.1))
     c.rename.ensures.done

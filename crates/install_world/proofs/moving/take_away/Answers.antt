@@ -1,5 +1,5 @@
 use Rattle.std.proofs.Common.{refl, ◌∙◌}
-use Rattle.std.proofs.lemmas.Result.{IfOk-weaker}
+use Rattle.std.proofs.lemmas.Result.{IfOk-weaker, err_from_is_err_and}
 use Rattle.tree_dev.proofs.Whole.{whole_then_read}
 use Rattle.install_world.proofs.PartDone.{absent_target, places_read, places_start, places_take, taken_is_done}
 use Rattle.install_world.proofs.RemovalRules.{cause_of, writes_none_change, writes_none_read, writes_none_start}
@@ -7,7 +7,9 @@ use Rattle.install_world.proofs.WayMoves.{gone_through, read_through}
 use Rattle.install_world.proofs.moving.take_away.Goals as goal
 
 pub returns-in_err-stat-clause-writes_none : goal.returns-in_err-stat-clause-writes_none
-returns-in_err-stat-clause-writes_none g c = writes_none_read _ _ _ _ c.in_err-stat.ensures.only_read (writes_none_start _)
+returns-in_err-stat-clause-writes_none g c =
+    let p = err_from_is_err_and c.from_residual.result c.from_residual.ensures.1 in
+    rw p.1 (writes_none_read _ _ _ _ c.in_err-stat.ensures.only_read (writes_none_start _))
 
 pub returns-in_err-stat-clause-moves : goal.returns-in_err-stat-clause-moves
 returns-in_err-stat-clause-moves g c = places_read c.args.places.now _ _ _ _ c.stat.ensures.only_read (places_start c.args.places.now _)
@@ -28,7 +30,7 @@ returns-in-Absent-clause-through g c = λ t told whole way number target are par
 
 pub returns-in-Absent-clause-done : goal.returns-in-Absent-clause-done
 returns-in-Absent-clause-done g c = λ done t told project number target are.
-    absent_target project number target c.args.places.now are _ _ t _ c.in_ok-stat.field-0 (g.T.Tree.tells_its_disk c.args.tree.now t told)
+    absent_target project number target c.args.places.now are _ _ t _ c.in_ok-stat.field-0 (g.met.T.Tree.tells_its_disk c.args.tree.now t told)
     c.stat.ensures.only_read (c.in_ok-stat.ensures.kind t told) c.in-Absent.is
 
 pub returns-in_default-clause-writes_none : goal.returns-in_default-clause-writes_none
