@@ -92,7 +92,7 @@ pub fn move_part<T: Tree>(tree: &mut T, places: &PartPlaces, gone: bool) -> Resu
         return take_away(tree, places);
     }
     match tree.stat(&places.staged)? {
-        Kind::Absent => Ok(Did::Done),
+        Kind::Absent => Ok(Did::Done), // it was moved before
         staged => put(tree, places, staged == Kind::File),
     }
 }

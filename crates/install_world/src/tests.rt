@@ -1,3 +1,5 @@
+mod moves;
+
 use super::*;
 use path_name::{Items, Path};
 use std::alloc::Global;
