@@ -1,20 +1,16 @@
 -- What becomes of a tree in flight, and how it begins.
-use Rattle.std.proofs.Common.{◌≡◌, ◌≢◌, ℕ, zero, suc, ◌+◌, ◌<◌, ◌≤◌, ◌^◌, Bool, true, false, cond, List, [], ◌∷◌, ◌++◌, length, get_or, Option, Some, None, is_some, refl, sym, ap, ◌∙◌, append-nil, subst, inl, inr, arith}
-use Rattle.std.specs.Prelude.{◌⊎◌, IsTrue, All, AllPairs}
-use Rattle.std.specs.List.{slice_get}
+use Rattle.std.proofs.Common.{◌≡◌, ℕ, zero, suc, ◌+◌, Bool, true, false, cond, List, [], ◌∷◌, ◌++◌, Option, Some, None, is_some, refl, sym, ap, ◌∙◌, subst, inl, inr, arith}
+use Rattle.std.specs.Prelude.{AllPairs}
 use Rattle.std.specs.FinMap as map
 use Rattle.std.proofs.lemmas.Option.{slice_get_within, get_or_from_slice_get}
 use Rattle.tree_dev.specs.Trees.{FileTree, behind}
-use Rattle.tree_dev.specs.Projects.{bytes_of, file_at, is_project_part, is_surroundings}
+use Rattle.tree_dev.specs.Projects.{file_at, is_project_part}
 use Rattle.tree_dev.proofs.Behind.{behind_head, head_behind}
-use Rattle.install_world.specs.InFlight.{Files, HasFiles, HasFilesOf, HasJournal, IsDone, IsFinishedProject, IsGoing, IsInFlight, IsMoving, IsNotBegun, IsPart, HasStagedParts, IsStagedPart, IsStagedSource, IsTakenAway, NoJournal, PartInFlight, finished_by, finished_file, job_file, job_result, kept_path, part_at, part_from, placed_or, Placed, staged_path, target_path}
-use Rattle.install_world.specs.JournalText.{IsTargetOf}
+use Rattle.install_world.specs.InFlight.{Files, HasFiles, HasFilesOf, HasJournal, IsMoving, IsPart, HasStagedParts, IsStagedSource, PartInFlight, finished_by, finished_file, job_file, job_result, part_at, part_from, placed_or, Placed, staged_path, target_path}
 use Rattle.install_world.specs.Targets.{AreTargetsApart, IsTargetPath}
 use Rattle.install_world.specs.declared.journal.Journal.{Journal}
 use Rattle.install_world.specs.declared.target.Target.{Target}
-use Rattle.install_world.proofs.OneJournal.{one_journal}
 use Rattle.install_world.proofs.PartPaths.{target_is_part, targets_apart}
-use Rattle.install_world.proofs.PartMoves.{at_no_target}
 
 -- ---- the part at a path
 

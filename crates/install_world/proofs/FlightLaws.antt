@@ -1,14 +1,14 @@
 -- What is known of trees in flight while a journal stands.
-use Rattle.std.proofs.Common.{◌≡◌, ◌≢◌, ℕ, ◌+◌, ◌<◌, ◌≤◌, ◌^◌, Bool, true, false, cond, List, [], ◌∷◌, ◌++◌, length, Option, Some, None, is_some, refl, sym, ap, ◌∙◌, append-nil, subst, inl, inr, arith}
-use Rattle.std.specs.Prelude.{◌⊎◌, IsTrue}
+use Rattle.std.proofs.Common.{◌≡◌, ℕ, ◌<◌, ◌^◌, Bool, true, false, cond, List, [], ◌∷◌, ◌++◌, length, Option, Some, None, is_some, refl, sym, ap, ◌∙◌, append-nil, subst, inl, inr, arith}
+use Rattle.std.specs.Prelude.{◌⊎◌}
 use Rattle.std.specs.FinMap as map
 use Rattle.std.proofs.lemmas.Option.{slice_get_within, get_or_from_slice_get}
-use Rattle.tree_dev.specs.Trees.{FileTree, IsTree, behind, is_folder}
+use Rattle.tree_dev.specs.Trees.{FileTree, IsTree, is_folder}
 use Rattle.tree_dev.specs.Changes.{changed, is_root}
-use Rattle.tree_dev.specs.Projects.{bytes_of, file_at, is_project_part, is_surroundings, journal_path}
+use Rattle.tree_dev.specs.Projects.{bytes_of, file_at, is_project_part, journal_path}
 use Rattle.tree_dev.specs.declared.change.Change.TheVariants.{Renamed}
 use Rattle.tree_dev.proofs.Carried.{nothing_below}
-use Rattle.install_world.specs.InFlight.{AreAllDone, Files, HasFiles, HasFilesOf, HasJournal, HasSurroundings, IsDone, IsFinishedProject, IsGoing, IsInFlight, IsMoving, IsNotBegun, IsPart, IsPartDone, HasStagedParts, IsStagedPart, IsTakenAway, IsThere, NoJournal, PartInFlight, Placed, finished_by, finished_file, job_result, kept_path, part_at, staged_path, target_path}
+use Rattle.install_world.specs.InFlight.{AreAllDone, Files, HasFiles, HasFilesOf, HasJournal, HasSurroundings, IsFinishedProject, IsInFlight, IsMoving, IsPart, IsPartDone, HasStagedParts, IsStagedPart, IsThere, NoJournal, PartInFlight, Placed, finished_by, finished_file, job_result, kept_path, part_at, staged_path, target_path}
 use Rattle.path_name.specs.Paths.{BeginsWith}
 use Rattle.install_world.specs.JournalText.{Says}
 use Rattle.install_world.specs.Targets.{IsTargetPath, lock_target, vendor_target}

@@ -1,12 +1,10 @@
 -- What the moves of a part change, and that it is done after them.
 use Rattle.std.proofs.Common.{◌≡◌, ℕ, Bool, true, false, List, [], ◌∷◌, ◌++◌, Option, Some, None, is_some, refl, sym, ap, ◌∙◌, subst, inl, inr, append-nil}
-use Rattle.std.specs.Prelude.{◌⊎◌}
 use Rattle.std.specs.FinMap as map
-use Rattle.tree_dev.specs.Trees.{FileTree, behind, entry_at, kind_at, kind_of}
+use Rattle.tree_dev.specs.Trees.{FileTree, behind, kind_at, kind_of}
 use Rattle.tree_dev.specs.Changes.{changed}
-use Rattle.tree_dev.specs.Disk.{Disk, Disks, IsOnDisk, made, reading}
+use Rattle.tree_dev.specs.Disk.{Disks, IsOnDisk, made, reading}
 use Rattle.tree_dev.specs.Device.{Adds, MayAdd, Meaning, OnlyRead}
-use Rattle.tree_dev.specs.Steady.{is_write}
 use Rattle.tree_dev.specs.declared.change.Change.{Change}
 use Rattle.tree_dev.specs.declared.change.Change.TheVariants as changes
 use Rattle.tree_dev.specs.declared.entry.Kind.{Kind}

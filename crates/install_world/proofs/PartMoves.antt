@@ -1,6 +1,6 @@
 -- What the moves of a part make of a tree in flight.
-use Rattle.std.proofs.Common.{◌≡◌, ◌≢◌, ℕ, zero, suc, ◌+◌, ◌<◌, ◌≤◌, ◌^◌, Bool, true, false, cond, List, [], ◌∷◌, ◌++◌, length, Option, Some, None, is_some, refl, sym, ap, ◌∙◌, append-nil, subst, inl, inr, arith}
-use Rattle.std.specs.Prelude.{◌⊎◌, IsTrue, All, AllPairs}
+use Rattle.std.proofs.Common.{◌≡◌, ◌≢◌, ℕ, zero, suc, ◌+◌, ◌<◌, ◌^◌, Bool, true, false, List, [], ◌∷◌, ◌++◌, length, Option, Some, None, is_some, refl, sym, ap, ◌∙◌, append-nil, subst, inl, inr, arith}
+use Rattle.std.specs.Prelude.{◌⊎◌, All}
 use Rattle.std.specs.List.{slice_get}
 use Rattle.std.specs.FinMap as map
 use Rattle.std.proofs.lemmas.Bool.{cases_eq}
@@ -8,16 +8,16 @@ use Rattle.std.proofs.lemmas.Option.{slice_get_within, get_or_from_slice_get}
 use Rattle.path_name.specs.Paths.{without_last}
 use Rattle.tree_dev.specs.Trees.{FileTree, behind, entry_at, is_folder, has_folder}
 use Rattle.tree_dev.specs.Changes.{changed}
-use Rattle.tree_dev.specs.Projects.{bytes_of, file_at, is_project_part, is_surroundings, journal_path}
+use Rattle.tree_dev.specs.Projects.{bytes_of, journal_path}
 use Rattle.tree_dev.specs.declared.change.Change.TheVariants.{Renamed}
-use Rattle.tree_dev.proofs.Behind.{behind_head, head_behind}
+use Rattle.tree_dev.proofs.Behind.{behind_head}
 use Rattle.tree_dev.proofs.Changed.{get-changed}
-use Rattle.install_world.specs.InFlight.{Files, HasFilesOf, HasJournal, IsDone, IsGoing, IsMoving, IsNotBegun, IsPart, IsStagedPart, IsTakenAway, PartInFlight, kept_path, old_path, part_at, part_from, placed_or, Placed, staged_path, target_path}
+use Rattle.install_world.specs.InFlight.{Files, HasFilesOf, HasJournal, IsDone, IsMoving, IsNotBegun, IsPart, IsStagedPart, IsTakenAway, PartInFlight, kept_path, old_path, part_at, part_from, placed_or, staged_path, target_path}
 use Rattle.install_world.specs.JournalText.{IsTargetOf}
 use Rattle.install_world.specs.Targets.{AreTargetsApart, IsTargetPath}
 use Rattle.install_world.specs.declared.journal.Journal.{Journal}
 use Rattle.install_world.specs.declared.target.Target.{Target}
-use Rattle.install_world.proofs.PartPaths.{behind_itself, kept_apart, kept_is_work, kept_in_work, kept_not_journal, kept_not_old, kept_not_staged, journal_is_work, old_is_work, parts_apart, staged_apart, staged_in_work, staged_is_work, staged_not_journal, staged_not_kept, staged_not_old, target_is_part, target_not_parent, target_not_work, targets_apart, two_parts_apart, work_not_parent, work_not_part}
+use Rattle.install_world.proofs.PartPaths.{behind_itself, kept_apart, kept_is_work, kept_in_work, kept_not_journal, kept_not_old, kept_not_staged, journal_is_work, old_is_work, staged_apart, staged_in_work, staged_is_work, staged_not_journal, staged_not_kept, staged_not_old, target_is_part, target_not_parent, target_not_work, targets_apart, two_parts_apart, work_not_parent, work_not_part}
 
 -- ---- paths at no target
 

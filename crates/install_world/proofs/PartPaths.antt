@@ -1,7 +1,6 @@
 -- Where the places of a job's parts lie apart: targets from each other, and all of them from what stands in `.install`.
-use Rattle.std.proofs.Common.{◌≡◌, ◌≢◌, ℕ, zero, suc, ◌+◌, ◌-◌, ◌<◌, ◌≤◌, ◌^◌, Bool, true, false, cond, codes, List, [], ◌∷◌, ◌++◌, length, get_or, take, drop, Option, Some, None, is_some, refl, sym, ap, ◌∙◌, append_assoc, append-nil, subst, inl, inr, arith}
-use Rattle.std.specs.Prelude.{◌⊎◌, ◌||◌, ◌&&◌, not, AllPairs}
-use Rattle.std.specs.List.{slice_get}
+use Rattle.std.proofs.Common.{◌≡◌, ◌≢◌, ℕ, suc, ◌<◌, ◌^◌, Bool, true, false, cond, codes, List, [], ◌∷◌, ◌++◌, length, get_or, take, drop, Option, Some, None, is_some, refl, sym, ap, ◌∙◌, append_assoc, append-nil, subst, inl, inr, arith}
+use Rattle.std.specs.Prelude.{◌⊎◌, ◌||◌, not, AllPairs}
 use Rattle.std.proofs.lemmas.Bool.{cases_lt, not-true}
 use Rattle.std.proofs.lemmas.Fmt.{decimal_injective}
 use Rattle.std.proofs.lemmas.List.{length-append, take-append-drop}
@@ -13,9 +12,9 @@ use Rattle.tree_dev.specs.Trees.{behind}
 use Rattle.tree_dev.specs.Projects.{is_project_part, is_surroundings, is_within, journal_path, lock_path, vendor_path, work_path}
 use Rattle.tree_dev.specs.Told.{both}
 use Rattle.tree_dev.proofs.Behind.{behind_head, head_behind, same_bytes}
-use Rattle.tree_dev.proofs.ProjectParts.{behind_same_head, outside, part_is_apart, surroundings_are_apart, within_on}
-use Rattle.install_world.specs.InFlight.{IsPart, Placed, placed_or, part_from, part_at, kept_path, old_path, staged_path, target_path}
-use Rattle.install_world.specs.Targets.{AreApart, AreTargetsApart, IsTargetPath, lock_target, vendor_target}
+use Rattle.tree_dev.proofs.ProjectParts.{behind_same_head, outside, part_is_apart, surroundings_are_apart}
+use Rattle.install_world.specs.InFlight.{IsPart, kept_path, old_path, staged_path, target_path}
+use Rattle.install_world.specs.Targets.{AreTargetsApart, IsTargetPath, lock_target, vendor_target}
 use Rattle.install_world.specs.declared.target.Target.{Target}
 
 none_unless : (o : Option (List (List ℕ))) → ((rest : List (List ℕ)) → o ≡ Some rest → ⊥) → o ≡ None

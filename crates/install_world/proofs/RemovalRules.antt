@@ -1,24 +1,24 @@
 -- What goes on a stretch of calls that write nothing, and on one that removes entries below one path alone.
-use Rattle.std.proofs.Common.{◌≡◌, ◌≢◌, ℕ, ◌≤◌, ◌∷◌, ◌++◌, Bool, true, false, cond, List, Option, Some, None, is_some, refl, sym, ap, ◌∙◌, subst, inl, inr, arith, append-nil, []}
+use Rattle.std.proofs.Common.{◌≡◌, ℕ, ◌≤◌, ◌++◌, Bool, true, false, cond, List, Option, Some, None, is_some, refl, sym, ap, ◌∙◌, subst, inl, inr, arith, append-nil, []}
 use Rattle.std.specs.Prelude.{◌⊎◌, IsTrue, Result, Ok, Err, OnErr, is_err}
 use Rattle.std.specs.Option.{option_map}
-use Rattle.std.specs.Ordering.{eq_by_cmp, is_eq}
+use Rattle.std.specs.Ordering.{eq_by_cmp}
 use Rattle.std.specs.FinMap as map
 use Rattle.std.proofs.lemmas.Cmp.{eq_by_cmp_equiv}
 use Rattle.path_name.specs.Orders.{path_cmp, path_cmp_total}
-use Rattle.tree_dev.specs.Trees.{FileTree, behind}
+use Rattle.tree_dev.specs.Trees.{FileTree}
 use Rattle.tree_dev.specs.Changes.{IsTorn, changed}
-use Rattle.tree_dev.specs.Disk.{Disk, Disks, IsImage, IsLater, Leaves, LeftSince, WasImage, moment, reading, with_change}
-use Rattle.tree_dev.specs.Device.{Adds, AddsTorn, MayAdd, MaySettle, Meaning, OnlyRead, Rose, Stays, is_failed}
+use Rattle.tree_dev.specs.Disk.{Disks, IsImage, IsLater, Leaves, LeftSince, WasImage, moment, reading, with_change}
+use Rattle.tree_dev.specs.Device.{Adds, MayAdd, MaySettle, Meaning, OnlyRead, Rose, is_failed}
 use Rattle.tree_dev.specs.Projects.{is_within}
-use Rattle.tree_dev.specs.Steady.{EachImage, IsWhole, Through, is_write}
+use Rattle.tree_dev.specs.Steady.{Through, is_write}
 use Rattle.tree_dev.specs.Told.{equal_paths}
 use Rattle.tree_dev.specs.declared.change.Change.{Change}
 use Rattle.tree_dev.specs.declared.change.Change.TheVariants as changes
 use Rattle.tree_dev.proofs.Behind.{behind_head}
 use Rattle.tree_dev.proofs.Changed.{get-changed}
 use Rattle.tree_dev.proofs.Images.{left_with_change}
-use Rattle.tree_dev.proofs.Moments.{image_now, later_by_change, later_itself, later_moment, later_on, later_same, only_now, since_parts}
+use Rattle.tree_dev.proofs.Moments.{image_now, later_by_change, later_moment, later_on, later_same, only_now, since_parts}
 use Rattle.tree_dev.proofs.ProjectParts.{within_on}
 use Rattle.tree_dev.proofs.Stretches.{through_ends, through_on}
 use Rattle.tree_dev.proofs.Whole.{reading_on, whole_on, whole_then_barrier, whole_then_read}

@@ -1,5 +1,5 @@
 -- The names of entries in `.install` are segments of paths.
-use Rattle.std.proofs.Common.{◌≡◌, ℕ, ◌<◌, ◌≤◌, ◌^◌, Bool, true, false, zero, suc, List, [], ◌∷◌, length, get_or, subst, codes, refl, sym, ap, ◌∙◌, arith, rules}
+use Rattle.std.proofs.Common.{◌≡◌, ℕ, ◌<◌, ◌^◌, Bool, true, false, zero, suc, List, [], ◌∷◌, length, get_or, subst, codes, refl, sym, arith, rules}
 use Rattle.std.specs.Prelude.{not, ◌==◌, IsTrue}
 use Rattle.std.specs.List.{list_all}
 use Rattle.std.specs.Str.{is_utf8, chars}
@@ -11,7 +11,7 @@ use Rattle.std.proofs.lemmas.Str.{is_utf8-from_IsUtf8}
 use Rattle.path_name.specs.Bytes.{is_digit}
 use Rattle.path_name.specs.Decimals.{decimal_text, is_number}
 use Rattle.path_name.specs.Orders.{bytes_are_equal}
-use Rattle.path_name.specs.Paths.{has_no_slash, is_above, is_clean, is_here, is_segment}
+use Rattle.path_name.specs.Paths.{is_segment}
 use Rattle.path_name.proofs.DecimalTexts.{digits_are_utf8}
 use Rattle.path_name.proofs.Joining.{both_true, segment_made}
 use Rattle.tree_dev.proofs.Behind.{same_bytes}

@@ -1,6 +1,6 @@
 -- The moves of a part in whatever a crash may leave.
 use Rattle.std.proofs.Common.{◌≡◌, ℕ, Bool, true, false, List, [], ◌∷◌, Option, Some, None, is_some, is_none, cond, refl, sym, ap, ◌∙◌, subst, inl, inr}
-use Rattle.std.specs.Prelude.{◌⊎◌, ◌&&◌, IsTrue, if◌then◌else◌}
+use Rattle.std.specs.Prelude.{◌⊎◌, ◌&&◌, IsTrue}
 use Rattle.std.specs.FinMap as map
 use Rattle.tree_dev.specs.Trees.{FileTree, behind, entry_at, kind_at, kind_of}
 use Rattle.tree_dev.specs.Changes.{changed, has_place, is_file, is_free, is_free_for_file, is_root}
@@ -13,12 +13,11 @@ use Rattle.tree_dev.specs.declared.change.Change.TheVariants as changes
 use Rattle.tree_dev.specs.declared.entry.Kind.{Kind}
 use Rattle.tree_dev.specs.declared.entry.Kind.TheVariants as kinds
 use Rattle.tree_dev.specs.declared.entry.Entry.{Entry}
-use Rattle.tree_dev.specs.declared.entry.Entry.TheVariants as entries
 use Rattle.tree_dev.proofs.Images.{reading_is_image}
-use Rattle.tree_dev.proofs.Stretches.{through_ends, through_from, through_on}
+use Rattle.tree_dev.proofs.Stretches.{through_ends, through_from}
 use Rattle.tree_dev.proofs.Whole.{reading_on, through_then_change, through_then_read}
-use Rattle.install_world.specs.InFlight.{HasJournal, IsInFlight, IsPart, IsThere, kept_path, staged_path, target_path}
-use Rattle.install_world.specs.Moving.{ArePlaces, ChangesPlaces, IsOnWay, Way}
+use Rattle.install_world.specs.InFlight.{IsInFlight, IsPart, IsThere, kept_path, staged_path, target_path}
+use Rattle.install_world.specs.Moving.{ArePlaces, IsOnWay, Way}
 use Rattle.install_world.specs.declared.moving.PartPlaces.{PartPlaces}
 use Rattle.install_world.specs.declared.target.Target.{Target}
 use Rattle.install_world.specs.Targets.{IsTargetPath}

@@ -1,5 +1,5 @@
 -- Calls that write nothing, and those that remove entries at and below one path and change nothing else.
-use Rattle.std.specs.Prelude.{◌≡◌, ℕ, ◌≤◌, ◌⊎◌, List, Bool, true, false, IsTrue, Option, None, is_some, Result, Ok, Err}
+use Rattle.std.specs.Prelude.{◌≡◌, ℕ, ◌≤◌, ◌⊎◌, List, Bool, true, false, IsTrue, None, is_some, Result, Ok, Err}
 use Rattle.std.specs.FinMap as map
 use Rattle.tree_dev.specs.Trees.{FileTree}
 use Rattle.tree_dev.specs.Disk.{IsImage, IsLater, LeftSince, moment, reading}

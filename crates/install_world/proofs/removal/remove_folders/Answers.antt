@@ -1,4 +1,3 @@
-use Rattle.std.proofs.Common.{refl}
 use Rattle.std.proofs.lemmas.Result.{err_from_is_err_and}
 use Rattle.install_world.proofs.RemovalRules.{removes_on, removes_start, removes_wider, within_equal, writes_none_on, writes_none_start}
 use Rattle.install_world.proofs.removal.remove_folders.Goals as goal

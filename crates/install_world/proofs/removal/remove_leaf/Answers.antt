@@ -1,6 +1,6 @@
 use Rattle.std.proofs.Common.{refl}
 use Rattle.std.proofs.lemmas.Result.{err_from_is_err_and}
-use Rattle.install_world.proofs.RemovalRules.{cause_of, removes_file, removes_start, within_equal, writes_none_change, writes_none_start}
+use Rattle.install_world.proofs.RemovalRules.{removes_file, removes_start, within_equal, writes_none_change, writes_none_start}
 use Rattle.install_world.proofs.removal.remove_leaf.Goals as goal
 
 pub returns-in_err-entry-clause-writes_none : goal.returns-in_err-entry-clause-writes_none

@@ -1,7 +1,8 @@
-use Rattle.std.proofs.Common.{refl, sym, subst}
+use Rattle.std.proofs.Common.{sym, subst}
 use Rattle.std.specs.Prelude.{IsTrue}
 use Rattle.std.specs.List.{list_all}
 use Rattle.path_name.specs.Paths.{is_segment}
+use Rattle.tree_dev.specs.declared.entry.ListAnswer.{ListAnswer}
 use Rattle.install_world.proofs.Segments.{segment_at}
 use Rattle.std.proofs.lemmas.Result.{err_from_is_err_and}
 use Rattle.install_world.proofs.RemovalRules.{removes_on, removes_read, removes_start, writes_none_failing, writes_none_on, writes_none_read, writes_none_start}
@@ -16,7 +17,7 @@ returns-in_err-path-clause-removes g c = removes_start _ _
 pub returns-in_err-names-clause-writes_none : goal.returns-in_err-names-clause-writes_none
 returns-in_err-names-clause-writes_none g c =
     let p = err_from_is_err_and c.from_residual-in_err-names.result c.from_residual-in_err-names.ensures.1 in
-    rw (p.1, p.2) (writes_none_failing _ _ _ _ c.in_err-names.field-0.0 (writes_none_read _ _ _ _ c.in_err-names.ensures.only_read (writes_none_start _)))
+    rw (p.1, p.2) (writes_none_failing ListAnswer (Unit {0}) _ _ c.in_err-names.field-0.0 (writes_none_read _ _ _ _ c.in_err-names.ensures.only_read (writes_none_start _)))
 
 pub returns-in_err-names-clause-removes : goal.returns-in_err-names-clause-removes
 returns-in_err-names-clause-removes g c = removes_read _ _ _ _ _ c.list.ensures.only_read (removes_start _ _)
