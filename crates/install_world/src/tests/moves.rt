@@ -16,12 +16,25 @@ const FILES: [&[u8]; 5] = [
     b"app.php",
 ];
 
-/// What is expected once a folder took the place of another, one was taken away, and `.install` was removed.
-const AFTER: [(&[u8], Kind); 6] = [
+/// The moves that are made, in order: of which target and part, and whether it is to be gone.
+const MOVES: [(&[u8], &[u8], bool); 3] = [
+    (b"vendor/x", b"0", false),
+    (b"vendor/x", b"0", false),
+    (b"vendor/y", b"1", true),
+];
+
+/// What then stands.
+const MOVED: [(&[u8], Kind); 5] = [
     (b"vendor/x/a", Kind::File),
-    (b"vendor/x/b", Kind::Absent),
+    (b".install/old/0/b", Kind::File),
+    (b".install/new/0", Kind::Absent),
     (b"vendor/y", Kind::Absent),
-    (b"vendor", Kind::Folder),
+    (b".install/old/1/c", Kind::File),
+];
+
+/// What stands once `.install` was removed.
+const AFTER: [(&[u8], Kind); 3] = [
+    (b"vendor/x/a", Kind::File),
     (b"app.php", Kind::File),
     (b".install", Kind::Absent),
 ];
@@ -30,11 +43,16 @@ fn path(alloc: Global, text: &[u8]) -> Result<Path, Fail> {
     Ok(Path::read(alloc, text)?)
 }
 
+fn put_file(alloc: Global, tree: &mut MemoryTree, at: &[u8]) -> Result<(), Fail> {
+    let file = Entry::File(Text::of(Vec::from_slice(alloc, b"x")?));
+    tree.put(alloc, &path(alloc, at)?, file)?;
+    Ok(())
+}
+
 fn project(alloc: Global) -> Result<MemoryTree, Fail> {
     let mut tree = MemoryTree::new(alloc)?;
     for at in &FILES {
-        let file = Entry::File(Text::of(Vec::from_slice(alloc, b"x")?));
-        tree.put(alloc, &path(alloc, at)?, file)?;
+        put_file(alloc, &mut tree, at)?;
     }
     Ok(tree)
 }
@@ -47,19 +65,58 @@ fn places(alloc: Global, target: &[u8], number: &[u8]) -> Result<PartPlaces, Fai
     })
 }
 
+fn is_moved(
+    alloc: Global,
+    tree: &mut MemoryTree,
+    target: &[u8],
+    number: &[u8],
+    gone: bool,
+) -> Result<bool, Fail> {
+    let places = places(alloc, target, number)?;
+    Ok(move_part(tree, &places, gone)? == Did::Done)
+}
+
+fn are_moved(alloc: Global, tree: &mut MemoryTree) -> Result<bool, Fail> {
+    for (target, number, gone) in &MOVES {
+        if !is_moved(alloc, tree, target, number, *gone)? {
+            return Ok(false);
+        }
+    }
+    Ok(true)
+}
+
+fn is_kind(alloc: Global, tree: &mut MemoryTree, at: &[u8], kind: Kind) -> Result<bool, Fail> {
+    Ok(tree.stat(&path(alloc, at)?)? == kind)
+}
+
+fn stands(
+    alloc: Global,
+    tree: &mut MemoryTree,
+    rows: &[(&'static [u8], Kind)],
+) -> Result<bool, Fail> {
+    for (at, kind) in rows {
+        if !is_kind(alloc, tree, at, *kind)? {
+            return Ok(false);
+        }
+    }
+    Ok(true)
+}
+
 #[test]
-fn moves_and_removal(rt: HostRuntime) -> Result<(), Fail> {
+fn parts_are_moved(rt: HostRuntime) -> Result<(), Fail> {
     let alloc = rt.alloc();
     let mut tree = project(alloc)?;
-    let first = places(alloc, b"vendor/x", b"0")?;
-    assert!(rt; move_part(&mut tree, &first, false)? == Did::Done);
-    assert!(rt; move_part(&mut tree, &first, false)? == Did::Done);
-    let second = places(alloc, b"vendor/y", b"1")?;
-    assert!(rt; move_part(&mut tree, &second, true)? == Did::Done);
-    assert!(rt; tree.stat(&path(alloc, b".install/old/0/b")?)? == Kind::File);
+    assert!(rt; are_moved(alloc, &mut tree)?);
+    assert!(rt; stands(alloc, &mut tree, &MOVED)?);
+    Ok(())
+}
+
+#[test]
+fn folders_are_removed(rt: HostRuntime) -> Result<(), Fail> {
+    let alloc = rt.alloc();
+    let mut tree = project(alloc)?;
+    assert!(rt; are_moved(alloc, &mut tree)?);
     remove_folder(alloc, &mut tree, &path(alloc, b".install")?)?;
-    for (at, kind) in &AFTER {
-        assert!(rt; tree.stat(&path(alloc, at)?)? == *kind);
-    }
+    assert!(rt; stands(alloc, &mut tree, &AFTER)?);
     Ok(())
 }
