@@ -1,3 +1,4 @@
+pub mod BegunRows
 pub mod RowGroups
 pub mod Chosen
 pub mod Keys
@@ -6,3 +7,4 @@ pub mod NextPackage
 pub mod NameNumbers
 pub mod PackageLaws
 pub mod SourceRules
+pub mod RowPrefixes

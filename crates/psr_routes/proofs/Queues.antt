@@ -714,14 +714,14 @@ module _ (needs : Needs) (queue : Queue) (number place : ℕ) (list : List ℕ) 
   neither true = refl
   neither false = refl
 
-  removed_step : (key : Key) (t u : Bool) → is_in queue.rest key ≡ t → (key.1 == place) ≡ u → cond (is_eq (key_cmp (number, place) key)) false t ≡ (t && not u)
-  removed_step key false u e f = neither (is_eq (key_cmp (number, place) key))
-  removed_step key true true e f =
+  left_step : (key : Key) (t u : Bool) → is_in queue.rest key ≡ t → (key.1 == place) ≡ u → cond (is_eq (key_cmp (number, place) key)) false t ≡ (t && not u)
+  left_step key false u e f = neither (is_eq (key_cmp (number, place) key))
+  left_step key true true e f =
       let at : key.1 ≡ place = eq_of key.1 place f in
       let named : key.0 ≡ number = (waits.keeps.members key e).1 ∙ ap (number_at needs) at ∙ sym number_is in
       let equal : is_eq (key_cmp (number, place) key) ≡ true = subst (λ k. is_eq (key_cmp (number, place) (key.0, k)) ≡ true) (sym at) (subst (λ n. is_eq (key_cmp (number, place) (n, place)) ≡ true) (sym named) (itself (number, place))) in
       ap (λ t. cond t false true) equal
-  removed_step key true false e f = other_key (is_eq (key_cmp (number, place) key)) refl
+  left_step key true false e f = other_key (is_eq (key_cmp (number, place) key)) refl
     where
       other_key : (t : Bool) → is_eq (key_cmp (number, place) key) ≡ t → cond t false true ≡ true
       other_key true g = absurd (false≢true (sym f ∙ eq_true key.1 place (sym (key_exact (number, place) key g).1)))
@@ -729,7 +729,7 @@ module _ (needs : Needs) (queue : Queue) (number place : ℕ) (list : List ℕ) 
 
   pub removed_is : (rest : BTreeSet Key) → ((key : Key) → is_in rest key ≡ cond (is_eq (key_cmp (number, place) key)) false (is_in queue.rest key))
       → (key : Key) → is_in rest key ≡ (is_in queue.rest key && not (key.1 == place))
-  removed_is rest updates key = updates key ∙ removed_step key (is_in queue.rest key) (key.1 == place) refl refl
+  removed_is rest updates key = updates key ∙ left_step key (is_in queue.rest key) (key.1 == place) refl refl
 
 -- no more is passed than there is
 pub passed_within : (needs : Needs) (queue : Queue) (place : ℕ) → Keeps needs queue → place < count_of needs → passed_at queue place ≤ length (required_at needs place)
@@ -737,3 +737,8 @@ passed_within needs queue place keeps within = elim (below_or_not (length (requi
   | inl more ↦ absurd (omega (arith, (keeps.passed place (length (required_at needs place)) within more).0))
   | inr few ↦ few
 ]
+
+-- the next one remains
+pub next_within : (needs : Needs) (queue : Queue) (list : List ℕ) (key : Key) → Waits needs queue list → IsNext queue key → is_in queue.rest key ≡ true
+next_within needs queue list key waits (inl first) = (waits.keeps.ready key first.within).0
+next_within needs queue list key waits (inr both) = both.1.within

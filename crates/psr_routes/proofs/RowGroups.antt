@@ -1,12 +1,13 @@
 -- Groups of rows, one row after the other.
-use Rattle.std.proofs.Common.{◌≡◌, ◌≢◌, ℕ, zero, suc, ◌<◌, ◌≤◌, Bool, true, false, List, [], ◌∷◌, ◌++◌, length, get_or, take, set, map, Bor, Vec, Global, refl, sym, ap, subst, ◌∙◌, append-nil, inl, inr, arith}
+use Rattle.std.proofs.Common.{◌≡◌, ◌≢◌, ℕ, zero, suc, ◌<◌, ◌≤◌, ◌-◌, Bool, true, false, List, [], ◌∷◌, ◌++◌, length, get_or, take, set, map, Bor, Vec, Global, refl, sym, ap, subst, ◌∙◌, append-nil, append_assoc, inl, inr, arith}
 use Rattle.std.proofs.lemmas.Bool.Decides.{eqb_tells}
 use Rattle.std.proofs.lemmas.List.{get_or-set_same, get_or-set_other, get_or-map, map-set, map-append, length-map, length-take-le}
 use Rattle.std.specs.Cmp.Lexicographic.{bytes_decides}
 use Rattle.path_name.specs.Orders.{bytes_are_equal}
 use Rattle.class_paths.specs.declared.types.Route.{Route}
 use Rattle.class_paths.specs.Candidates.{rows_at, rows_upto}
-use Rattle.psr_routes.specs.Groups.{lent, group_at, rows_below}
+use Rattle.class_paths.specs.RowPath.{row_path_of}
+use Rattle.psr_routes.specs.Groups.{lent, group_at, paths_below}
 
 pub pushed_empty : (groups : List (Vec (Bor Route) Global)) (group : Vec (Bor Route) Global) (len : ℕ) → lent group ≡ [] → group_at groups len ≡ [] → group_at (groups ++ group ∷ []) len ≡ []
 pushed_empty [] group zero e h = e
@@ -47,7 +48,26 @@ put_there groups old new row name below was more begins len within =
     let here = put_here groups row.now name at new below (one_more groups at old new row below was more) begins in
     elim (eqb_tells at len) [ inl e ↦ subst (λ (n : ℕ). group_at (set groups at new) n ≡ group_at groups n ++ rows_at (row.now ∷ []) name n) e.1 here | inr e ↦ put_elsewhere groups row.now name at new len (λ same. e.1 (sym same)) (other_length row.now.prefix name len within e.1) ]
 
--- the groups of a number of lengths are the rows of these lengths
-pub groups_are_rows : (groups : List (Vec (Bor Route) Global)) (rows : List Route) (name : List ℕ) (len : ℕ) → ((k : ℕ) → k ≤ len → group_at groups k ≡ rows_at rows name k) → rows_below groups (suc len) ≡ rows_upto rows name len
-groups_are_rows groups rows name zero each = append-nil _ ∙ each 0 (omega arith)
-groups_are_rows groups rows name (suc len) each = rw (each (suc len) (omega arith), groups_are_rows groups rows name len (λ k below. each k (omega (arith, below)))) refl
+-- the groups of a number of lengths give the paths of the rows of these lengths
+pub groups_give : (groups : List (Vec (Bor Route) Global)) (rows : List Route) (name : List ℕ) (len : ℕ) → ((k : ℕ) → k ≤ len → group_at groups k ≡ rows_at rows name k)
+    → paths_below groups name (suc len) ≡ map (λ row. row_path_of row name) (rows_upto rows name len)
+groups_give groups rows name zero each = append-nil _ ∙ ap (map (λ row. row_path_of row name)) (each 0 (omega arith))
+groups_give groups rows name (suc len) each =
+    ap (λ some. map (λ row. row_path_of row name) some ++ paths_below groups name (suc len)) (each (suc len) (omega arith))
+    ∙ ap (λ more. map (λ row. row_path_of row name) (rows_at rows name (suc len)) ++ more) (groups_give groups rows name len (λ k below. each k (omega (arith, below))))
+    ∙ sym (map-append (λ row. row_path_of row name) (rows_at rows name (suc len)) (rows_upto rows name len))
+
+next_group : (groups : List (Vec (Bor Route) Global)) (name : List ℕ) (len : ℕ) → 0 < len → paths_below groups name len ≡ map (λ row. row_path_of row name) (group_at groups (len - 1)) ++ paths_below groups name (len - 1)
+next_group groups name zero some = absurd (omega arith)
+next_group groups name (suc len) some =
+    let before : suc len - 1 ≡ len = omega arith in
+    rw before refl
+
+-- the loop over groups goes one group on
+pub group_step : (groups : List (Vec (Bor Route) Global)) (name : List ℕ) (len : ℕ) (rows : List Route) (before new all : List (List (List ℕ))) → 0 < len → group_at groups (len - 1) ≡ rows
+    → new ≡ before ++ map (λ row. row_path_of row name) rows → before ++ paths_below groups name len ≡ all → new ++ paths_below groups name (len - 1) ≡ all
+group_step groups name len rows before new all some here more so_far =
+    let own = map (λ row. row_path_of row name) rows in
+    let rest = paths_below groups name (len - 1) in
+    ap (λ front. front ++ rest) more ∙ append_assoc before own rest
+    ∙ ap (λ back. before ++ back) (sym (next_group groups name len some ∙ ap (λ r. map (λ row. row_path_of row name) r ++ rest) here)) ∙ so_far

@@ -10,7 +10,7 @@ mod queue;
 mod rows;
 mod types;
 
-pub use laws::order_of_packages;
+pub use laws::{order_of_packages, prefixes_of_rows};
 pub use lookups::{candidates, row_path};
 pub use order::package_order;
 pub use rows::routes;

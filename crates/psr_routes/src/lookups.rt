@@ -4,7 +4,7 @@ ghost use Rattle.std.specs.Prelude.{◌≡◌, ℕ, ◌+◌, ◌≤◌, [], ◌�
 ghost use Rattle.class_paths.specs.ClassNames.{IsClassName};
 ghost use Rattle.class_paths.specs.RowPath.{begins, is_route_prefix, row_path_of};
 ghost use Rattle.class_paths.specs.Candidates.{is_same_kind, of_kind, rows_at, rows_upto, candidates_of};
-ghost use Rattle.psr_routes.specs.Groups.{group_at};
+ghost use Rattle.psr_routes.specs.Groups.{group_at, paths_below};
 
 use class_paths::{Route, RouteKind, class_path};
 use path_name::Path;
@@ -12,6 +12,7 @@ use std::alloc::{AllocError, Global};
 
 /// The path that a row gives a class (PSR-4; PSR-0): the row's folder, and behind it the path that `class_path` gives for
 /// the row's kind and prefix. Its one refusal is want of memory.
+#[tactic(auto, unfolding(class_paths::specs::RowPath::row_path_of))]
 pub fn row_path(alloc: Global, row: &Route, name: &[u8]) -> Result<Path, AllocError>
     requires class { IsClassName name.now }
     requires begins { IsTrue (begins row.now.prefix name.now) }
@@ -49,6 +50,21 @@ fn put_kind(
     ensures { OnOk result (paths.new.items ≡ paths.old.items ++ map (λ row. row_path_of row name.now) (rows_upto (of_kind kind rows.now) name.now (length name.now))) }
 {
     let groups = groups_of(alloc, kind, rows, name)?;
+    put_groups(alloc, paths, groups.as_slice(), name)
+}
+
+/// Puts the paths of rows in groups behind others, those with the longest prefix first.
+fn put_groups(
+    alloc: Global,
+    paths: &mut Vec<Path>,
+    groups: &[Vec<&Route>],
+    name: &[u8],
+) -> Result<(), AllocError>
+    requires count { length groups.now ≡ length name.now + 1 }
+    requires class { IsClassName name.now }
+    requires rows { (len : ℕ) → len ≤ length name.now → All (λ row. IsTrue (is_route_prefix row.kind row.prefix) × IsTrue (begins row.prefix name.now)) (group_at groups.now len) }
+    ensures { OnOk result (paths.new.items ≡ paths.old.items ++ paths_below groups.now name.now (length groups.now)) }
+{
     for len in (0..groups.len()).rev() {
         put_group(alloc, paths, groups[len].as_slice(), name)?;
     }
@@ -64,7 +80,7 @@ fn put_group(
 ) -> Result<(), AllocError>
     requires class { IsClassName name.now }
     requires prefixes { All (λ row. IsTrue (is_route_prefix row.now.kind row.now.prefix) × IsTrue (begins row.now.prefix name.now)) group.now }
-    ensures { OnOk result (paths.new.items ≡ paths.old.items ++ map (λ row. row_path_of row.now name.now) group.now) }
+    ensures { OnOk result (paths.new.items ≡ paths.old.items ++ map (λ row. row_path_of row name.now) (map (λ row. row.now) group.now)) }
 {
     for row in group {
         paths.push(row_path(alloc, row, name)?)?;

@@ -3,7 +3,8 @@
 ghost use Rattle.std.specs.Prelude.{◌≡◌, ◌++◌, map, length, IfOk, OnOk};
 ghost use Rattle.std.specs.List.{list_any};
 ghost use Rattle.std.specs.List.Sorted.{IsPermutation};
-ghost use Rattle.path_name.specs.Orders.{bytes_are_equal};
+ghost use Rattle.std.specs.Ordering.{is_lt};
+ghost use Rattle.path_name.specs.Orders.{byte_cmp, bytes_are_equal};
 ghost use Rattle.psr_routes.specs.Numbers.{lent, names_of, IsInOrder, IsPointOf, number_in, number_if_borne, required_by, IsOf};
 
 use crate::types::Placed;
@@ -58,7 +59,13 @@ fn number_in(names: &[&[u8]], name: &[u8]) -> usize
     ensures exact { result ≡ number_in (lent names.now) name.now }
     ensures point { IsPointOf (lent names.now) name.now result }
 {
-    names.partition_point(|other| *other < name)
+    names.partition_point(|other| is_less(other, name))
+}
+
+fn is_less(one: &[u8], other: &[u8]) -> bool
+    ensures { result ≡ is_lt (byte_cmp one.now other.now) }
+{
+    one.cmp(other).is_lt()
 }
 
 /// Whether a name, of which the number is known, is one of the names.

@@ -1,5 +1,6 @@
-use Rattle.std.proofs.Common.{◌≡◌, ℕ, ◌≤◌, ◌<◌, ltb, false, sym, ◌∙◌, get_or, length, length-map, arith}
+use Rattle.std.proofs.Common.{◌≡◌, ℕ, ◌≤◌, ◌<◌, ltb, false, sym, ◌∙◌, length, arith}
 use Rattle.std.proofs.lemmas.Bool.Decides.{nat_tests}
+use Rattle.std.proofs.lemmas.List.{length-map}
 use Rattle.psr_routes.specs.Numbers.{lent}
 use Rattle.psr_routes.proofs.NameNumbers.{none_borne, borne_in}
 use Rattle.psr_routes.proofs.needs.is_borne.Goals as goal

@@ -7,6 +7,6 @@ use Rattle.psr_routes.proofs.needs.Needs.of.Goals as goal
 pub returns : goal.returns
 returns c =
     let members = c.args.members.now in
-    is_of members (lent c.in_ok-names.field-0.items) _ c.in_ok-names.ensures.all
+    is_of members (lent c.in_ok-names.names.items) _ c.in_ok-names.ensures.all
     (c.in_ok-numbers_of.ensures ∙ ap (λ list. map (λ (one : Placed). number_in (lent list) one.package.name) members) c.as_slice.ensures.value)
     (c.in_ok-required_of.ensures ∙ ap (λ list. map (λ (one : Placed). required_by (lent list) one.package.require) members) c.as_slice-2.ensures.value)

@@ -5,7 +5,7 @@ use Rattle.psr_routes.proofs.Queues.{at_zero, gone_waits}
 use Rattle.psr_routes.proofs.queue.Queue.look_at.Goals as goal
 
 pub index-number-requires : goal.index-number-requires
-index-number-requires c = c.requires.looks c.args.place (Contains-push c.args.self.now.unseen.items c.args.place)
+index-number-requires c = omega (arith, c.requires.looks c.args.place (Contains-push c.args.self.now.unseen.items c.args.place), c.args.needs.now.numbers.ok.0)
 
 pub put_among-requires-clause-number : goal.put_among-requires-clause-number
 put_among-requires-clause-number c =
