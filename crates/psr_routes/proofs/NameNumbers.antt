@@ -1,10 +1,10 @@
 -- Numbers of names are ordered as the names are.
-use Rattle.std.proofs.Common.{◌≡◌, ◌≢◌, ℕ, zero, suc, ◌+◌, ◌<◌, ◌≤◌, Bool, true, false, cond, List, [], ◌∷◌, ◌++◌, length, get_or, take, map, Some, Vec, Global, refl, sym, ap, subst, ◌∙◌, add-one, arith, inl, inr}
+use Rattle.std.proofs.Common.{◌≡◌, ℕ, zero, suc, ◌+◌, ◌<◌, ◌≤◌, Bool, true, false, cond, List, [], ◌∷◌, ◌++◌, length, get_or, take, map, Some, refl, sym, ap, subst, ◌∙◌, arith, inl, inr}
 use Rattle.std.specs.Prelude.{◌⊎◌, ◌||◌}
 use Rattle.std.specs.Borrow.{Bor}
 use Rattle.std.specs.List.{All, AllWithin, Contains, list_any, count_by, slice_get}
 use Rattle.std.specs.List.Sorted.{IsSorted}
-use Rattle.std.specs.Ordering.{nat_cmp, is_lt, is_eq, is_gt, ordering_reverse}
+use Rattle.std.specs.Ordering.{nat_cmp, is_lt, ordering_reverse}
 use Rattle.std.specs.Cmp.Lexicographic.{bytes_decides}
 use Rattle.std.specs.declared.cmp.Ordering.{Ordering}
 use Rattle.std.specs.declared.cmp.Ordering.TheVariants.{Less, Equal, Greater}
@@ -22,8 +22,7 @@ use Rattle.path_name.specs.Orders.{byte_cmp, bytes_are_equal, byte_cmp_total, by
 use Rattle.manifest_read.specs.declared.types.Link.{Link}
 use Rattle.psr_routes.specs.declared.types.Placed.{Placed}
 use Rattle.psr_routes.specs.declared.needs.Needs.{Needs}
-use Rattle.psr_routes.specs.PackageOrder.{requires}
-use Rattle.psr_routes.specs.Numbers.{lent, names_of, IsInOrder, IsPointOf, number_in, is_borne, number_if_borne, required_by, list_at, IsOf}
+use Rattle.psr_routes.specs.Numbers.{lent, names_of, IsInOrder, IsPointOf, number_in, is_borne, number_if_borne, required_by, IsOf}
 use Rattle.psr_routes.specs.Waiting.{count_of, number_at, required_at, Fits}
 use Rattle.psr_routes.proofs.Queues.{below_or_not}
 use Rattle.psr_routes.proofs.NextPackage.{Agrees, at_within}

@@ -1,18 +1,17 @@
 -- The first of a queue is the next package.
-use Rattle.std.proofs.Common.{◌≡◌, ◌≢◌, ℕ, zero, suc, ◌+◌, ◌<◌, ◌≤◌, Bool, true, false, cond, not, List, [], ◌∷◌, ◌++◌, length, get_or, map, filter, find, Option, Some, None, refl, sym, ap, subst, ◌∙◌, append_assoc, append-nil, add-one, arith, inl, inr}
-use Rattle.std.specs.Prelude.{◌⊎◌, ◌==◌, ◌||◌, ◌&&◌, nat_lt}
-use Rattle.std.specs.List.{AllByRecursion, list_any, enumerate_from, slice_get}
+use Rattle.std.proofs.Common.{◌≡◌, ◌≢◌, ℕ, zero, suc, ◌+◌, ◌<◌, ◌≤◌, Bool, true, false, cond, not, List, [], ◌∷◌, ◌++◌, length, get_or, map, filter, Some, refl, sym, ap, subst, ◌∙◌, append_assoc, append-nil, add-one, arith, inl, inr}
+use Rattle.std.specs.Prelude.{◌==◌, ◌&&◌, nat_lt}
+use Rattle.std.specs.List.{enumerate_from, slice_get}
 use Rattle.std.specs.Option.{option_or, option_map_or}
 use Rattle.std.specs.Ordering.{nat_cmp, ordering_then, is_lt, is_gt}
 use Rattle.std.proofs.lemmas.Bool.{false≢true}
-use Rattle.std.proofs.lemmas.Bool.Decides.{nat_tests, eqb_tells}
+use Rattle.std.proofs.lemmas.Bool.Decides.{nat_tests}
 use Rattle.path_name.specs.Orders.{byte_cmp}
-use Rattle.manifest_read.specs.declared.types.Package.{Package}
 use Rattle.psr_routes.specs.declared.types.Placed.{Placed}
 use Rattle.psr_routes.specs.declared.needs.Needs.{Needs}
 use Rattle.psr_routes.specs.declared.queue.Queue.{Queue}
-use Rattle.psr_routes.specs.PackageOrder.{Numbered, requires, waits_for, is_ready, is_less, least_of, next_of, without, taken_from, ordered, package_order_of}
-use Rattle.psr_routes.specs.Waiting.{Key, key_cmp, is_in, count_of, number_at, required_at, key_of, remaining, awaits, passed_at, IsParked, Keeps, Waits, IsFirst, IsNext}
+use Rattle.psr_routes.specs.PackageOrder.{Numbered, requires, waits_for, is_ready, least_of, next_of, without, taken_from, ordered, package_order_of}
+use Rattle.psr_routes.specs.Waiting.{Key, key_cmp, is_in, count_of, number_at, required_at, key_of, remaining, awaits, passed_at, Waits, IsNext}
 use Rattle.psr_routes.proofs.Keys.{has, count, one_borne, two_borne, Bears, another_borne, second_borne, eq_of, eq_true}
 use Rattle.psr_routes.proofs.Queues.{same_or_not, unlike}
 use Rattle.psr_routes.proofs.Chosen.{Member, IsAt, Ascends, all_member, member_filter, filter_member, member_any, any_none, filter_none, filter_all, filter_twice, filter_same, least_is, numbered, enumerated, ascending, ascending_filter}

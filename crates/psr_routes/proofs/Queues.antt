@@ -1,14 +1,14 @@
 -- What a queue keeps as packages come and go.
 use Rattle.std.proofs.Common.{◌≡◌, ◌≢◌, ℕ, zero, suc, ◌+◌, ◌-◌, ◌<◌, ◌≤◌, Bool, true, false, cond, List, [], ◌∷◌, ◌++◌, length, get_or, set, map, Vec, Global, refl, sym, ap, subst, ◌∙◌, arith, inl, inr}
 use Rattle.std.proofs.Common.{Option, Some, None, not}
-use Rattle.std.specs.Prelude.{◌⊎◌, ◌==◌, ◌||◌, ◌&&◌, nat_lt, if◌then◌else◌}
+use Rattle.std.specs.Prelude.{◌⊎◌, ◌==◌, ◌||◌, ◌&&◌, nat_lt}
 use Rattle.std.specs.Borrow.{Bor}
 use Rattle.std.specs.Option.{IfSome, option_copied}
-use Rattle.std.specs.List.{Contains, list_any, count_by}
+use Rattle.std.specs.List.{Contains}
 use Rattle.std.specs.List.Sorted.{IsStrictlySortedBy}
-use Rattle.std.specs.Ordering.{nat_cmp, is_eq, is_gt}
+use Rattle.std.specs.Ordering.{is_eq, is_gt}
 use Rattle.std.specs.BTreeMap.{is_at}
-use Rattle.std.specs.BTreeSet.{BTreeSet, contains, insert_key, IsOrdered}
+use Rattle.std.specs.BTreeSet.{BTreeSet, insert_key, IsOrdered}
 use Rattle.std.specs.Set.{remove_key}
 use Rattle.std.specs.declared.cmp.Ordering.{Ordering}
 use Rattle.std.specs.declared.cmp.Ordering.TheVariants.{Less, Equal, Greater}
@@ -19,7 +19,7 @@ use Rattle.std.proofs.lemmas.List.Elements.{Contains-push, Contains-push_cases, 
 use Rattle.psr_routes.specs.declared.needs.Needs.{Needs}
 use Rattle.psr_routes.specs.declared.queue.Queue.{Queue}
 use Rattle.psr_routes.specs.Numbers.{list_at}
-use Rattle.psr_routes.specs.Waiting.{Key, key_cmp, is_in, count_of, number_at, required_at, key_of, Fits, is_awaited, awaits, passed_at, IsParked, IsLong, Keeps, Passes, Waits, IsBlank, Holds, IsFirst, IsNext}
+use Rattle.psr_routes.specs.Waiting.{Key, key_cmp, is_in, count_of, number_at, required_at, key_of, Fits, is_awaited, awaits, passed_at, IsParked, Keeps, Passes, Waits, IsBlank, Holds, IsNext}
 use Rattle.psr_routes.proofs.Keys.{key_exact, itself, has, count, count_cons, one_borne, eq_of, eq_true}
 
 -- ---- counts of a name after a key comes or goes

@@ -1,17 +1,16 @@
 -- Rows of manifests that were read have prefixes of their kind.
-use Rattle.std.proofs.Common.{◌≡◌, ℕ, zero, suc, Bool, true, false, List, [], ◌∷◌, ◌++◌, map, Option, Some, None, IsTrue, refl, sym, subst}
+use Rattle.std.proofs.Common.{◌≡◌, ℕ, zero, suc, Bool, true, false, List, [], ◌∷◌, ◌++◌, map, Some, IsTrue, refl, sym, subst}
 use Rattle.std.specs.Prelude.{reverse}
 use Rattle.std.specs.List.{All, AllByRecursion, flat_map, slice_get}
 use Rattle.std.proofs.lemmas.List.{reverse-append}
-use Rattle.std.proofs.lemmas.List.Elements.{All-from_recursion, recursion_from_All}
+use Rattle.std.proofs.lemmas.List.Elements.{All-from_recursion}
 use Rattle.manifest_read.specs.declared.types.Role.TheVariants.{Root, Member}
 use Rattle.manifest_read.specs.declared.types.PathText.{PathText}
 use Rattle.manifest_read.specs.declared.types.PrefixDirs.{PrefixDirs}
-use Rattle.manifest_read.specs.declared.types.Autoload.{Autoload}
 use Rattle.manifest_read.specs.declared.types.Manifest.{Manifest}
 use Rattle.manifest_read.specs.declared.autoload.Standard.TheVariants as standards
 use Rattle.manifest_read.specs.Autoloads as autoloads
-use Rattle.manifest_read.specs.WellFormed.{IsAutoload, IsPrefixDirs, IsPackage, IsManifest}
+use Rattle.manifest_read.specs.WellFormed.{IsPrefixDirs, IsPackage, IsManifest}
 use Rattle.class_paths.specs.declared.types.RouteKind.{RouteKind}
 use Rattle.class_paths.specs.declared.types.RouteKind.TheVariants.{Psr4, Psr0}
 use Rattle.class_paths.specs.declared.types.Route.{Route}
@@ -19,7 +18,7 @@ use Rattle.class_paths.specs.Prefixes as prefixes
 use Rattle.class_paths.specs.RowPath.{is_route_prefix}
 use Rattle.psr_routes.specs.declared.types.Placed.{Placed}
 use Rattle.psr_routes.specs.PackageOrder.{Numbered, ordered}
-use Rattle.psr_routes.specs.Routes.{Source, root_sources, package_sources, sources_of, rows_of_prefix, prefixes_of, rows_of_source, rows_of_kind, rows_of}
+use Rattle.psr_routes.specs.Routes.{Source, root_sources, package_sources, sources_of, rows_of_prefix, rows_of_source, rows_of_kind, rows_of}
 use Rattle.psr_routes.proofs.PackageLaws.{taken_at}
 
 module _ {X : Type 0} (P : X → Type 0) where
@@ -92,8 +91,8 @@ module _ (project : List (List ℕ)) (root : Manifest) (members : List Placed) (
   package_rules : AllByRecursion AreRules (package_sources members)
   package_rules = all_map AreRules (λ one. record { owner = Some one.1; folder = one.1.shown; rules = one.1.package.autoload }) (ordered members)
       (all_from_each (λ (one : Numbered). AreRules (record { owner = Some one.1; folder = one.1.shown; rules = one.1.package.autoload })) (ordered members) (λ k one e.
-        let is = all_at (λ (p : Placed). IsPackage Member p.package) members one.0 one.1 each (taken_at members k one e) in
-        all_prefixes (IsPrefixDirs standards.Psr4 Member) _ (λ d is. is.prefix) one.1.package.autoload.psr4 is.autoload.psr4))
+      let is = all_at (λ (p : Placed). IsPackage Member p.package) members one.0 one.1 each (taken_at members k one e) in
+      all_prefixes (IsPrefixDirs standards.Psr4 Member) _ (λ d is. is.prefix) one.1.package.autoload.psr4 is.autoload.psr4))
 
   all_sources : (dev : Bool) → AllByRecursion AreRules (sources_of project root members dev)
   unfolding sources_of

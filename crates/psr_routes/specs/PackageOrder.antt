@@ -1,5 +1,5 @@
 -- The order of packages: what a package requires comes before it.
-use Rattle.std.specs.Prelude.{◌≡◌, ◌≢◌, ℕ, zero, suc, ◌<◌, List, [], ◌∷◌, length, map, filter, find, Bool, true, not, ◌&&◌, ◌==◌, Option, Some, IsTrue}
+use Rattle.std.specs.Prelude.{◌≡◌, ◌≢◌, ℕ, zero, suc, ◌<◌, List, [], ◌∷◌, length, map, filter, find, Bool, not, ◌&&◌, ◌==◌, Option, Some, IsTrue}
 use Rattle.std.specs.List.{list_any, enumerate_from, slice_get}
 use Rattle.std.specs.Option.{option_or, option_map_or}
 use Rattle.std.specs.Ordering.{is_lt}

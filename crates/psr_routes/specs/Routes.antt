@@ -1,6 +1,6 @@
 -- Autoload rows of a project (Composer's documentation, "autoload"), in the order of Composer's generator: the root before
 -- packages, and a package before what it requires.
-use Rattle.std.specs.Prelude.{ℕ, Bool, true, false, List, [], ◌∷◌, ◌++◌, map, reverse, Option, Some, None, if◌then◌else◌}
+use Rattle.std.specs.Prelude.{ℕ, Bool, List, [], ◌∷◌, ◌++◌, map, reverse, Option, Some, None, if◌then◌else◌}
 use Rattle.std.specs.List.{flat_map}
 use Rattle.manifest_read.specs.declared.types.PathText.{PathText}
 use Rattle.manifest_read.specs.declared.types.PrefixDirs.{PrefixDirs}

@@ -1,5 +1,5 @@
 -- Packages that wait, by their places and the numbers of their names.
-use Rattle.std.specs.Prelude.{◌≡◌, ◌≢◌, ◌⊎◌, ℕ, ◌+◌, ◌<◌, ◌≤◌, List, [], length, filter, Bool, true, false, ◌==◌, if◌then◌else◌, slice_index_or, nat_lt, IsTrue}
+use Rattle.std.specs.Prelude.{◌≡◌, ◌⊎◌, ℕ, ◌<◌, ◌≤◌, List, [], length, filter, Bool, true, false, ◌==◌, if◌then◌else◌, slice_index_or, nat_lt}
 use Rattle.std.specs.List.{Contains, count_by, enumerate_from}
 use Rattle.std.specs.Ordering.{nat_cmp, ordering_then, is_gt}
 use Rattle.std.specs.BTreeSet.{BTreeSet, contains, IsOrdered}

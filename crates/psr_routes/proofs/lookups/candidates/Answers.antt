@@ -1,4 +1,4 @@
-use Rattle.std.proofs.Common.{◌≡◌, ◌++◌, length, map, sym, ap, ◌∙◌}
+use Rattle.std.proofs.Common.{◌++◌, length, map, sym, ap, ◌∙◌}
 use Rattle.std.proofs.lemmas.List.{map-append}
 use Rattle.class_paths.specs.declared.types.RouteKind.TheVariants.{Psr4, Psr0}
 use Rattle.class_paths.specs.RowPath.{row_path_of}

@@ -1,10 +1,10 @@
-use Rattle.std.proofs.Common.{rules, sym}
+use Rattle.std.proofs.Common.{rules}
 use Rattle.std.specs.Borrow.{Bor}
 use Rattle.std.specs.Prelude.{List, ℕ}
 use Rattle.std.specs.Ordering.{is_lt}
 use Rattle.std.proofs.lemmas.List.Sorted.{IsPartitionPoint-from_clause}
 use Rattle.path_name.specs.Orders.{byte_cmp}
-use Rattle.psr_routes.specs.Numbers.{lent, IsPointOf}
+use Rattle.psr_routes.specs.Numbers.{lent}
 use Rattle.psr_routes.proofs.NameNumbers.{partitioned, lent_point, point_is_number}
 use Rattle.psr_routes.proofs.needs.number_in.Goals as goal
 

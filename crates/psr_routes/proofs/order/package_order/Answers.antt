@@ -1,5 +1,5 @@
-use Rattle.std.proofs.Common.{◌≡◌, ℕ, ◌+◌, ◌<◌, [], true, length, arith}
-use Rattle.psr_routes.specs.Waiting.{Waits, is_in, key_of, remaining}
+use Rattle.std.proofs.Common.{arith}
+use Rattle.psr_routes.specs.Waiting.{remaining}
 use Rattle.psr_routes.proofs.NameNumbers.{fits, agrees}
 use Rattle.psr_routes.proofs.NextPackage.{Agrees, starts, ends}
 use Rattle.psr_routes.proofs.order.package_order.Goals as goal

@@ -1,4 +1,4 @@
-use Rattle.std.proofs.Common.{◌≡◌, ℕ, ◌+◌, List, [], ◌++◌, length, map}
+use Rattle.std.proofs.Common.{◌≡◌, ℕ, ◌+◌, [], ◌++◌, length, map}
 use Rattle.psr_routes.specs.PackageOrder.{taken_from, package_order_of}
 use Rattle.psr_routes.specs.Waiting.{Waits, remaining}
 use Rattle.psr_routes.proofs.order.package_order.Given as goal

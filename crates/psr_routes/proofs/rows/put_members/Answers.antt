@@ -1,7 +1,6 @@
-use Rattle.std.proofs.Common.{◌-◌, ◌<◌, ◌≤◌, length, map, refl, ap, ◌∙◌, arith}
+use Rattle.std.proofs.Common.{◌-◌, map, ap, ◌∙◌, arith}
 use Rattle.std.proofs.lemmas.List.{map-append}
-use Rattle.psr_routes.specs.Sources.{Rules}
-use Rattle.psr_routes.proofs.SourceRules.{InOrder, in_order, put_step}
+use Rattle.psr_routes.proofs.SourceRules.{in_order, put_step}
 use Rattle.psr_routes.proofs.rows.put_members.Goals as goal
 
 pub bounds-members-order : goal.bounds-members-order

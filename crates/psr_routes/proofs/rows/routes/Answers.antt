@@ -1,8 +1,8 @@
-use Rattle.std.proofs.Common.{◌≡◌, ◌++◌, List, ap, ◌∙◌}
+use Rattle.std.proofs.Common.{◌++◌, List, ap, ◌∙◌}
 use Rattle.class_paths.specs.declared.types.Route.{Route}
 use Rattle.class_paths.specs.declared.types.RouteKind.TheVariants.{Psr4, Psr0}
 use Rattle.psr_routes.specs.Routes.{sources_of, rows_of_kind, rows_of}
-use Rattle.psr_routes.specs.Sources.{Rules, seen, rows_by}
+use Rattle.psr_routes.specs.Sources.{seen, rows_by}
 use Rattle.psr_routes.proofs.SourceRules.{rows_by_sources}
 use Rattle.psr_routes.proofs.rows.routes.Goals as goal
 

@@ -1,6 +1,6 @@
-use Rattle.std.proofs.Common.{◌≡◌, ℕ, ◌<◌, ◌++◌, ◌∷◌, [], false, length, sym, ap, ◌∙◌, arith}
+use Rattle.std.proofs.Common.{◌≡◌, false, sym, ap, ◌∙◌, arith}
 use Rattle.std.proofs.lemmas.List.Elements.{Contains-push}
-use Rattle.psr_routes.specs.Waiting.{number_at, key_of, is_in, count_of}
+use Rattle.psr_routes.specs.Waiting.{number_at, is_in}
 use Rattle.psr_routes.proofs.Queues.{at_zero, gone_waits}
 use Rattle.psr_routes.proofs.queue.Queue.look_at.Goals as goal
 

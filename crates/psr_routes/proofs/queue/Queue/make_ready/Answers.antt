@@ -1,4 +1,4 @@
-use Rattle.std.proofs.Common.{◌≡◌, ℕ, true, cond, refl, subst}
+use Rattle.std.proofs.Common.{◌≡◌, true, cond, refl, subst}
 use Rattle.std.specs.Vec.{with_item}
 use Rattle.std.specs.Ordering.{is_eq}
 use Rattle.psr_routes.specs.Waiting.{Key, key_cmp, key_of, number_at, is_in}

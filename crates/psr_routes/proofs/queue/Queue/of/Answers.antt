@@ -1,4 +1,4 @@
-use Rattle.std.proofs.Common.{◌≡◌, ◌∙◌, subst, arith}
+use Rattle.std.proofs.Common.{◌≡◌, subst, arith}
 use Rattle.psr_routes.specs.Waiting.{IsBlank, Holds, count_of}
 use Rattle.psr_routes.proofs.Queues.{blank_holds, holds_waits}
 use Rattle.psr_routes.proofs.queue.Queue.of.Goals as goal

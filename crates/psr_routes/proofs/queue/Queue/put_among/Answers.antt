@@ -1,4 +1,4 @@
-use Rattle.std.proofs.Common.{◌≡◌, ℕ, ◌≤◌, ◌<◌, length, ap, arith}
+use Rattle.std.proofs.Common.{◌≡◌, ◌≤◌, ◌<◌, length, ap, arith}
 use Rattle.psr_routes.specs.Waiting.{count_of, passed_at, required_at}
 use Rattle.psr_routes.proofs.Queues.{passed_within, item_at, at_zero}
 use Rattle.psr_routes.proofs.queue.Queue.put_among.Goals as goal

@@ -1,8 +1,7 @@
 use Rattle.std.proofs.Common.{◌≡◌, ℕ, ◌-◌, ◌≤◌, ◌<◌, length, get_or, set, refl, sym, ap, subst, ◌∙◌, [], arith}
 use Rattle.std.specs.Vec.{with_item}
-use Rattle.std.proofs.lemmas.List.{get_or-set_same, length-set}
+use Rattle.std.proofs.lemmas.List.{length-set}
 use Rattle.psr_routes.specs.Numbers.{list_at}
-use Rattle.psr_routes.specs.Waiting.{number_at}
 use Rattle.psr_routes.proofs.Queues.{at_zero, item_at, number_is, number_long, list_long, borne_here, takes_it, removed_is, same_unseen, taken_few, taken_last}
 use Rattle.psr_routes.proofs.queue.Queue.remove.Goals as goal
 
