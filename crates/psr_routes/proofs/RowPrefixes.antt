@@ -4,13 +4,14 @@ use Rattle.std.specs.Prelude.{reverse}
 use Rattle.std.specs.List.{All, AllByRecursion, flat_map, slice_get}
 use Rattle.std.proofs.lemmas.List.{reverse-append}
 use Rattle.std.proofs.lemmas.List.Elements.{All-from_recursion}
+use Rattle.manifest_read.specs.declared.types.Role.{Role}
 use Rattle.manifest_read.specs.declared.types.Role.TheVariants.{Root, Member}
 use Rattle.manifest_read.specs.declared.types.PathText.{PathText}
 use Rattle.manifest_read.specs.declared.types.PrefixDirs.{PrefixDirs}
+use Rattle.manifest_read.specs.declared.types.Autoload.{Autoload}
 use Rattle.manifest_read.specs.declared.types.Manifest.{Manifest}
-use Rattle.manifest_read.specs.declared.autoload.Standard.TheVariants as standards
 use Rattle.manifest_read.specs.Autoloads as autoloads
-use Rattle.manifest_read.specs.WellFormed.{IsPrefixDirs, IsPackage, IsManifest}
+use Rattle.manifest_read.specs.WellFormed.{IsAutoload, IsPackage, IsManifest}
 use Rattle.class_paths.specs.declared.types.RouteKind.{RouteKind}
 use Rattle.class_paths.specs.declared.types.RouteKind.TheVariants.{Psr4, Psr0}
 use Rattle.class_paths.specs.declared.types.Route.{Route}
@@ -54,11 +55,6 @@ all_flat P Q f each (x ∷ xs) all = all_append P (f x) (flat_map f xs) (each x 
 abbrev HasPrefix : Route → Type 0
 HasPrefix row = IsTrue (is_route_prefix row.kind row.prefix)
 
--- what manifests call a prefix of PSR-4 is one
-same_word : (prefix : List ℕ) → autoloads.is_prefix standards.Psr4 prefix ≡ true → IsTrue (is_route_prefix Psr4 prefix)
-unfolding autoloads.is_prefix autoloads.is_psr4_prefix prefixes.is_psr4_prefix
-same_word prefix is = is
-
 rows_have : (kind : RouteKind) (folder : List (List ℕ)) (dirs : PrefixDirs) → IsTrue (is_route_prefix kind dirs.prefix) → AllByRecursion HasPrefix (rows_of_prefix kind folder dirs)
 rows_have kind folder dirs is = all_map HasPrefix (λ p. record { kind = kind; prefix = dirs.prefix; folder = folder ++ p.path }) dirs.folders (each dirs.folders)
   where
@@ -66,33 +62,39 @@ rows_have kind folder dirs is = all_map HasPrefix (λ p. record { kind = kind; p
     each [] = tt
     each (p ∷ folders) = (is, each folders)
 
--- rules that a manifest has are read
-abbrev AreRules : Source → Type 0
-AreRules source = AllByRecursion (λ (dirs : PrefixDirs). autoloads.is_prefix standards.Psr4 dirs.prefix ≡ true) source.rules.psr4
+-- a prefix of PSR-4 is one
+abbrev IsPrefix : PrefixDirs → Type 0
+IsPrefix dirs = IsTrue (is_route_prefix Psr4 dirs.prefix)
 
-all_prefixes : (P : PrefixDirs → Type 0) (Q : PrefixDirs → Type 0) → ((d : PrefixDirs) → P d → Q d) → (list : List PrefixDirs) → AllByRecursion P list → AllByRecursion Q list
-all_prefixes P Q so [] all = tt
-all_prefixes P Q so (d ∷ list) all = (so d all.0, all_prefixes P Q so list all.1)
+abbrev AreRules : Source → Type 0
+AreRules source = AllByRecursion IsPrefix source.rules.psr4
+
+all_weaker : (P Q : PrefixDirs → Type 0) (list : List PrefixDirs) → AllByRecursion P list → ((d : PrefixDirs) → P d → Q d) → AllByRecursion Q list
+all_weaker P Q [] all so = tt
+all_weaker P Q (d ∷ list) all so = (so d all.0, all_weaker P Q list all.1 so)
+
+-- so are those of rules that were read: what manifests call a prefix of PSR-4 is the same
+rules_read : (role : Role) (rules : Autoload) → IsAutoload role rules → AllByRecursion IsPrefix rules.psr4
+unfolding autoloads.is_prefix autoloads.is_psr4_prefix prefixes.is_psr4_prefix
+rules_read role rules read = all_weaker _ IsPrefix rules.psr4 read.psr4 (λ d is. is.prefix)
 
 no_condition : (list : List PrefixDirs) → AllByRecursion (λ (dirs : PrefixDirs). IsTrue (is_route_prefix Psr0 dirs.prefix)) list
 no_condition [] = tt
 no_condition (d ∷ list) = (refl, no_condition list)
 
 source_rows : (kind : RouteKind) (source : Source) → AreRules source → AllByRecursion HasPrefix (rows_of_source kind source)
-source_rows Psr4 source are = all_flat HasPrefix (λ (dirs : PrefixDirs). IsTrue (is_route_prefix Psr4 dirs.prefix)) (rows_of_prefix Psr4 source.folder) (λ dirs is. rows_have Psr4 source.folder dirs is) source.rules.psr4
-    (all_prefixes (λ (dirs : PrefixDirs). autoloads.is_prefix standards.Psr4 dirs.prefix ≡ true) (λ (dirs : PrefixDirs). IsTrue (is_route_prefix Psr4 dirs.prefix)) (λ dirs is. same_word dirs.prefix is) source.rules.psr4 are)
+source_rows Psr4 source are = all_flat HasPrefix IsPrefix (rows_of_prefix Psr4 source.folder) (λ dirs is. rows_have Psr4 source.folder dirs is) source.rules.psr4 are
 source_rows Psr0 source are = all_flat HasPrefix (λ (dirs : PrefixDirs). IsTrue (is_route_prefix Psr0 dirs.prefix)) (rows_of_prefix Psr0 source.folder) (λ dirs is. rows_have Psr0 source.folder dirs is) source.rules.psr0 (no_condition source.rules.psr0)
 
 module _ (project : List (List ℕ)) (root : Manifest) (members : List Placed) (read : IsManifest Root root) (each : AllByRecursion (λ (one : Placed). IsPackage Member one.package) members) where
   root_rules : (dev : Bool) → AllByRecursion AreRules (root_sources project root dev)
-  root_rules true = (all_prefixes (IsPrefixDirs standards.Psr4 Root) _ (λ d is. is.prefix) root.package.autoload.psr4 read.parts.autoload.psr4, (all_prefixes (IsPrefixDirs standards.Psr4 Root) _ (λ d is. is.prefix) root.autoload_dev.psr4 read.autoload_dev.psr4, tt))
-  root_rules false = (all_prefixes (IsPrefixDirs standards.Psr4 Root) _ (λ d is. is.prefix) root.package.autoload.psr4 read.parts.autoload.psr4, tt)
+  root_rules true = (rules_read Root root.package.autoload read.parts.autoload, (rules_read Root root.autoload_dev read.autoload_dev, tt))
+  root_rules false = (rules_read Root root.package.autoload read.parts.autoload, tt)
 
   package_rules : AllByRecursion AreRules (package_sources members)
   package_rules = all_map AreRules (λ one. record { owner = Some one.1; folder = one.1.shown; rules = one.1.package.autoload }) (ordered members)
       (all_from_each (λ (one : Numbered). AreRules (record { owner = Some one.1; folder = one.1.shown; rules = one.1.package.autoload })) (ordered members) (λ k one e.
-      let is = all_at (λ (p : Placed). IsPackage Member p.package) members one.0 one.1 each (taken_at members k one e) in
-      all_prefixes (IsPrefixDirs standards.Psr4 Member) _ (λ d is. is.prefix) one.1.package.autoload.psr4 is.autoload.psr4))
+      rules_read Member one.1.package.autoload (all_at (λ (p : Placed). IsPackage Member p.package) members one.0 one.1 each (taken_at members k one e)).autoload))
 
   all_sources : (dev : Bool) → AllByRecursion AreRules (sources_of project root members dev)
   unfolding sources_of
