@@ -1,131 +1,103 @@
+ghost use Rattle.std.specs.Prelude.{◌≡◌};
+ghost use Rattle.std.specs.List.{list_all};
+ghost use Rattle.class_paths.specs.RowPath.{is_route_prefix};
+
 use super::*;
-use class_paths::{Route, RouteKind};
-use json_ordered::Doc;
+use class_paths::{Route, RouteKind, is_class_name, is_route_prefix};
 use manifest_read::{Manifest, Role};
 use path_name::{Name, Path};
 use std::alloc::{AllocError, Global};
 use std::test::*;
 
-fn document(alloc: Global, text: &[u8]) -> Option<Doc> {
-    json_ordered::read(alloc, text).ok()
-}
-
-fn manifest(alloc: Global, text: &[u8], role: Role) -> Option<Manifest> {
-    manifest_read::from_doc(alloc, &document(alloc, text)?, role).ok()
+fn manifest(alloc: Global, text: &str, role: Role) -> Result<Manifest, Fail> {
+    let document = json_ordered::read(alloc, text.as_bytes())?;
+    Ok(manifest_read::from_doc(alloc, &document, role)?)
 }
 
 /// A package in its place below `vendor`.
-fn placed(alloc: Global, text: &[u8]) -> Option<Placed> {
-    let manifest = manifest(alloc, text, Role::Member)?;
-    let vendor = Path::read(alloc, b"vendor").ok()?;
-    let place = vendor.follow(alloc, manifest.package.name.as_slice()).ok()?;
-    Some(Placed {
-        at: place.copy(alloc).ok()?,
+fn placed(alloc: Global, text: &str) -> Result<Placed, Fail> {
+    let package = manifest(alloc, text, Role::Member)?.package;
+    let place = Path::read(alloc, b"vendor")?.follow(alloc, package.name.as_slice())?;
+    Ok(Placed {
+        package,
+        at: place.copy(alloc)?,
         shown: place,
-        package: manifest.package,
         mirrored: false,
     })
 }
 
-/// A letter's package: `a/a` of an `a`.
-fn put_package(text: &mut Vec<u8>, letter: u8) -> Result<(), AllocError> {
-    text.push(b'"')?;
-    text.push(letter)?;
-    text.push(b'/')?;
-    text.push(letter)?;
-    text.push(b'"')?;
-    Ok(())
-}
-
-/// The composer.json of a package: a letter for its name, and after a `=` letters for those of what it requires.
-fn package_text(alloc: Global, letters: &[u8]) -> Result<Vec<u8>, AllocError> {
-    let mut text = Vec::from_slice(alloc, b"{")?;
-    for (at, letter) in letters.iter().enumerate() {
-        match at {
-            0 => text.extend_from_slice(b"\"name\":")?,
-            1 => text.extend_from_slice(b",\"require\":{")?,
-            2 => (),
-            _ => text.push(b',')?,
-        }
-        if at != 1 {
-            put_package(&mut text, *letter)?;
-        }
-        if at > 1 {
-            text.extend_from_slice(b":\"*\"")?;
-        }
-    }
-    if letters.len() > 1 {
-        text.push(b'}')?;
-    }
-    text.push(b'}')?;
-    Ok(text)
-}
-
-fn packages(alloc: Global, graph: &[u8]) -> Option<Vec<Placed>> {
+fn packages(alloc: Global, texts: &[&str]) -> Result<Vec<Placed>, Fail> {
     let mut members = Vec::new(alloc);
-    for letters in graph.split(|byte| *byte == b' ') {
-        if !letters.is_empty() {
-            let text = package_text(alloc, letters).ok()?;
-            members.push(placed(alloc, text.as_slice())?).ok()?;
-        }
+    for text in texts {
+        members.push(placed(alloc, text)?)?;
     }
-    Some(members)
+    Ok(members)
 }
 
-/// Packages with what they require, and their order as digits of places.
-const ORDERS: [(&str, &str); 21] = [
-    ("", ""),
-    ("a", "0"),
-    ("b a", "10"),
-    ("a=b b", "10"),
-    ("a b=a", "01"),
-    ("a=b b=a", "01"),
-    ("b=a a=b", "10"),
-    ("a=a b", "01"),
-    ("a=b b=c c", "210"),
-    ("a=b b=c c=a", "021"),
-    ("a=bc b c", "120"),
-    ("a=z b", "01"),
-    ("c=b b=c a", "210"),
-    ("a a", "01"),
-    ("a=a a", "10"),
-    ("a=a a=a", "01"),
-    ("a=b b b", "120"),
-    ("b=a a=b a", "210"),
-    ("d=c c=b b=a a", "3210"),
-    ("a=dc b=d c d=c", "2301"),
-    ("a=b b=c c=b", "012"),
+const A: &str = "{\"name\":\"a/a\"}";
+
+const A_NEEDS_A: &str = "{\"name\":\"a/a\",\"require\":{\"a/a\":\"*\"}}";
+
+const A_NEEDS_B: &str = "{\"name\":\"a/a\",\"require\":{\"b/b\":\"*\"}}";
+
+const A_NEEDS_BC: &str = "{\"name\":\"a/a\",\"require\":{\"b/b\":\"*\",\"c/c\":\"*\"}}";
+
+const A_NEEDS_DC: &str = "{\"name\":\"a/a\",\"require\":{\"d/d\":\"*\",\"c/c\":\"*\"}}";
+
+const A_NEEDS_Z: &str = "{\"name\":\"a/a\",\"require\":{\"z/z\":\"*\"}}";
+
+const B: &str = "{\"name\":\"b/b\"}";
+
+const B_NEEDS_A: &str = "{\"name\":\"b/b\",\"require\":{\"a/a\":\"*\"}}";
+
+const B_NEEDS_C: &str = "{\"name\":\"b/b\",\"require\":{\"c/c\":\"*\"}}";
+
+const B_NEEDS_D: &str = "{\"name\":\"b/b\",\"require\":{\"d/d\":\"*\"}}";
+
+const C: &str = "{\"name\":\"c/c\"}";
+
+const C_NEEDS_A: &str = "{\"name\":\"c/c\",\"require\":{\"a/a\":\"*\"}}";
+
+const C_NEEDS_B: &str = "{\"name\":\"c/c\",\"require\":{\"b/b\":\"*\"}}";
+
+const D_NEEDS_C: &str = "{\"name\":\"d/d\",\"require\":{\"c/c\":\"*\"}}";
+
+/// Packages, and their places in order.
+const ORDERS: [(&[&str], &[u32]); 21] = [
+    (&[], &[]),
+    (&[A], &[0]),
+    (&[B, A], &[1, 0]),
+    (&[A_NEEDS_B, B], &[1, 0]),
+    (&[A, B_NEEDS_A], &[0, 1]),
+    (&[A_NEEDS_B, B_NEEDS_A], &[0, 1]),
+    (&[B_NEEDS_A, A_NEEDS_B], &[1, 0]),
+    (&[A_NEEDS_A, B], &[0, 1]),
+    (&[A_NEEDS_B, B_NEEDS_C, C], &[2, 1, 0]),
+    (&[A_NEEDS_B, B_NEEDS_C, C_NEEDS_A], &[0, 2, 1]),
+    (&[A_NEEDS_BC, B, C], &[1, 2, 0]),
+    (&[A_NEEDS_Z, B], &[0, 1]),
+    (&[C_NEEDS_B, B_NEEDS_C, A], &[2, 1, 0]),
+    (&[A, A], &[0, 1]),
+    (&[A_NEEDS_A, A], &[1, 0]),
+    (&[A_NEEDS_A, A_NEEDS_A], &[0, 1]),
+    (&[A_NEEDS_B, B, B], &[1, 2, 0]),
+    (&[B_NEEDS_A, A_NEEDS_B, A], &[2, 1, 0]),
+    (&[D_NEEDS_C, C_NEEDS_B, B_NEEDS_A, A], &[3, 2, 1, 0]),
+    (&[A_NEEDS_DC, B_NEEDS_D, C, D_NEEDS_C], &[2, 3, 0, 1]),
+    (&[A_NEEDS_B, B_NEEDS_C, C_NEEDS_B], &[0, 1, 2]),
 ];
 
-fn is_order(alloc: Global, graph: &str, wanted: &str) -> bool {
-    let Some(members) = packages(alloc, graph.as_bytes()) else {
-        return false;
-    };
-    let Ok(order) = package_order(alloc, members.as_slice()) else {
-        return false;
-    };
-    let mut digits = Vec::new(alloc);
-    for place in order.as_slice() {
-        if digits.push(b'0' + (*place % 10) as u8).is_err() {
-            return false;
-        }
-    }
-    digits.as_slice() == wanted.as_bytes()
+fn have_order(alloc: Global, texts: &[&str], order: &[u32]) -> Result<bool, Fail> {
+    let members = packages(alloc, texts)?;
+    Ok(members.len() < 10 && package_order(alloc, members.as_slice())?.as_slice() == order)
 }
 
 #[test]
-fn packages_stand_behind_what_they_require(rt: HostRuntime) {
-    for (graph, order) in ORDERS {
-        assert!(rt; is_order(rt.alloc(), graph, order));
+fn packages_stand_behind_what_they_require(rt: HostRuntime) -> Result<(), Fail> {
+    for (texts, order) in &ORDERS {
+        assert!(rt; have_order(rt.alloc(), texts, order)?);
     }
-}
-
-fn route(alloc: Global, kind: RouteKind, prefix: &str, folder: &str) -> Option<Route> {
-    Some(Route {
-        kind,
-        prefix: Name::copy_of(alloc, prefix.as_bytes()).ok()?,
-        folder: Path::read(alloc, folder.as_bytes()).ok()?,
-    })
+    Ok(())
 }
 
 const ROWS: [(RouteKind, &str, &str); 10] = [
@@ -141,8 +113,8 @@ const ROWS: [(RouteKind, &str, &str); 10] = [
     (RouteKind::Psr0, "A\\B", "w"),
 ];
 
-/// Classes, and where their files are looked for.
-const CANDIDATES: [(&str, &str); 20] = [
+/// Classes, and where their files are looked for. Some have `_` at their ends, small letters, or bytes past ASCII.
+const CANDIDATES: [(&str, &str); 40] = [
     ("C", "e/C.php z/C.php"),
     ("A", "e/A.php z/A.php"),
     ("A\\C", "x/C.php v/C.php e/A/C.php z/A/C.php"),
@@ -184,10 +156,6 @@ const CANDIDATES: [(&str, &str); 20] = [
     ("Q_a", "e/Q_a.php b/Q/a.php z/Q/a.php"),
     ("Q\\a", "e/Q/a.php b/Q/a.php z/Q/a.php"),
     ("q", "e/q.php z/q.php"),
-];
-
-/// More of them: names with `_` at their ends, in small letters, and past ASCII.
-const MORE_CANDIDATES: [(&str, &str); 20] = [
     ("_", "e/_.php z/.php"),
     ("__", "e/__.php z/.php"),
     ("_a", "e/_a.php z/a.php"),
@@ -219,12 +187,24 @@ const MORE_CANDIDATES: [(&str, &str); 20] = [
     ("Z9\\php", "e/Z9/php.php z/Z9/php.php"),
 ];
 
-fn table(alloc: Global, given: &[(RouteKind, &str, &str)]) -> Option<Vec<Route>> {
+fn table(alloc: Global, given: &[(RouteKind, &str, &str)]) -> Result<Vec<Route>, Fail> {
     let mut rows = Vec::new(alloc);
-    for row in given {
-        rows.push(route(alloc, row.0, row.1, row.2)?).ok()?;
+    for (kind, prefix, folder) in given {
+        rows.push(Route {
+            kind: *kind,
+            prefix: Name::copy_of(alloc, prefix.as_bytes())?,
+            folder: Path::read(alloc, folder.as_bytes())?,
+        })?;
     }
-    Some(rows)
+    Ok(rows)
+}
+
+/// Whether each row has a prefix that rows of its kind may have.
+fn have_prefixes(rows: &[Route]) -> bool
+    ensures { result ≡ list_all (λ row. is_route_prefix row.kind row.prefix) rows.now }
+{
+    rows.iter()
+        .all(|row| is_route_prefix(row.kind, row.prefix.as_slice()))
 }
 
 /// Texts with a blank between each two.
@@ -235,65 +215,61 @@ fn put_text(text: &mut Vec<u8>, more: &[u8]) -> Result<(), AllocError> {
     text.extend_from_slice(more)
 }
 
-fn candidate_texts(alloc: Global, rows: &[Route], name: &str) -> Option<Vec<u8>> {
+fn path_texts(alloc: Global, paths: &[Path]) -> Result<Vec<u8>, AllocError> {
     let mut text = Vec::new(alloc);
-    for path in candidates(alloc, rows, name.as_bytes()).ok()?.as_slice() {
-        put_text(&mut text, path.text()).ok()?;
+    for path in paths {
+        put_text(&mut text, path.text())?;
     }
-    Some(text)
+    Ok(text)
 }
 
-fn are_candidates(
-    alloc: Global,
-    given: &[(RouteKind, &str, &str)],
-    name: &str,
-    wanted: &str,
-) -> bool {
-    let Some(rows) = table(alloc, given) else {
-        return false;
-    };
-    match candidate_texts(alloc, rows.as_slice(), name) {
-        Some(text) => text.as_slice() == wanted.as_bytes(),
-        None => false,
+fn are_candidates(alloc: Global, rows: &[Route], name: &str, wanted: &str) -> Result<bool, Fail> {
+    if !is_class_name(name.as_bytes()) || !have_prefixes(rows) {
+        return Ok(false);
     }
+    let paths = candidates(alloc, rows, name.as_bytes())?;
+    Ok(path_texts(alloc, paths.as_slice())?.as_slice() == wanted.as_bytes())
 }
 
 #[test]
-fn classes_are_looked_for(rt: HostRuntime) {
-    for (name, paths) in CANDIDATES {
-        assert!(rt; are_candidates(rt.alloc(), &ROWS, name, paths));
+fn classes_are_looked_for(rt: HostRuntime) -> Result<(), Fail> {
+    let rows = table(rt.alloc(), &ROWS)?;
+    for (name, paths) in &CANDIDATES {
+        assert!(rt; are_candidates(rt.alloc(), rows.as_slice(), name, paths)?);
     }
+    Ok(())
 }
 
-#[test]
-fn more_classes_are_looked_for(rt: HostRuntime) {
-    for (name, paths) in MORE_CANDIDATES {
-        assert!(rt; are_candidates(rt.alloc(), &ROWS, name, paths));
-    }
-}
-
-const LONGEST: [(RouteKind, &str, &str); 2] = [
+const LONGEST: &[(RouteKind, &str, &str)] = &[
     (RouteKind::Psr4, "A\\B\\", "y"),
     (RouteKind::Psr4, "A\\", "x"),
 ];
 
-const PARTED: [(RouteKind, &str, &str); 2] = [
+const PARTED: &[(RouteKind, &str, &str)] = &[
     (RouteKind::Psr0, "Foo_", "lib"),
     (RouteKind::Psr0, "N_x\\", "lib"),
 ];
 
-const EMPTY: [(RouteKind, &str, &str); 2] = [
+const EMPTY: &[(RouteKind, &str, &str)] = &[
     (RouteKind::Psr0, "Q", "b"),
     (RouteKind::Psr4, "", "a"),
 ];
 
+/// Rows, a class, and where its file is looked for.
+const TRIED: [(&[(RouteKind, &str, &str)], &str, &str); 4] = [
+    (LONGEST, "A\\B\\C", "y/C.php x/B/C.php"),
+    (PARTED, "Foo_Bar_Baz", "lib/Foo/Bar/Baz.php"),
+    (PARTED, "N_x\\Foo_Bar", "lib/N_x/Foo/Bar.php"),
+    (EMPTY, "Q", "a/Q.php b/Q.php"),
+];
+
 #[test]
-fn prefixes_are_tried_in_order(rt: HostRuntime) {
-    let alloc = rt.alloc();
-    assert!(rt; are_candidates(alloc, &LONGEST, "A\\B\\C", "y/C.php x/B/C.php"));
-    assert!(rt; are_candidates(alloc, &PARTED, "Foo_Bar_Baz", "lib/Foo/Bar/Baz.php"));
-    assert!(rt; are_candidates(alloc, &PARTED, "N_x\\Foo_Bar", "lib/N_x/Foo/Bar.php"));
-    assert!(rt; are_candidates(alloc, &EMPTY, "Q", "a/Q.php b/Q.php"));
+fn prefixes_are_tried_in_order(rt: HostRuntime) -> Result<(), Fail> {
+    for (given, name, paths) in &TRIED {
+        let rows = table(rt.alloc(), given)?;
+        assert!(rt; are_candidates(rt.alloc(), rows.as_slice(), name, paths)?);
+    }
+    Ok(())
 }
 
 const ROOT: &str =
@@ -306,27 +282,29 @@ const MEMBERS: [&str; 3] = [
 ];
 
 /// The prefix and the folder of each row.
-fn row_texts(alloc: Global, dev: bool) -> Option<Vec<u8>> {
-    let root = manifest(alloc, ROOT.as_bytes(), Role::Root)?;
-    let project = Path::read(alloc, b"app").ok()?;
-    let mut members = Vec::new(alloc);
-    for text in MEMBERS {
-        members.push(placed(alloc, text.as_bytes())?).ok()?;
-    }
-    let rows = routes(alloc, &project, &root, members.as_slice(), dev).ok()?;
+fn row_texts(alloc: Global, rows: &[Route]) -> Result<Vec<u8>, AllocError> {
     let mut text = Vec::new(alloc);
-    for row in rows.as_slice() {
-        put_text(&mut text, row.prefix.as_slice()).ok()?;
-        put_text(&mut text, row.folder.text()).ok()?;
+    for row in rows {
+        put_text(&mut text, row.prefix.as_slice())?;
+        put_text(&mut text, row.folder.text())?;
     }
-    Some(text)
+    Ok(text)
 }
 
-fn are_rows(alloc: Global, dev: bool, wanted: &str) -> bool {
-    match row_texts(alloc, dev) {
-        Some(text) => text.as_slice() == wanted.as_bytes(),
-        None => false,
+fn are_rows(alloc: Global, dev: bool, wanted: &str) -> Result<bool, Fail> {
+    let root = manifest(alloc, ROOT, Role::Root)?;
+    let members = packages(alloc, &MEMBERS)?;
+    if members.len() > 9 {
+        return Ok(false);
     }
+    let rows = routes(
+        alloc,
+        &Path::read(alloc, b"app")?,
+        &root,
+        members.as_slice(),
+        dev,
+    )?;
+    Ok(row_texts(alloc, rows.as_slice())?.as_slice() == wanted.as_bytes())
 }
 
 const WITH_DEV: &str =
@@ -336,7 +314,8 @@ const WITHOUT: &str =
     "App\\ app/src App\\ app/more  app Acme\\Log\\ vendor/acme/log/src Acme\\Clock\\ vendor/acme/clock/src Old_ app/lib Log_ vendor/acme/log/lib";
 
 #[test]
-fn rows_stand_in_order(rt: HostRuntime) {
-    assert!(rt; are_rows(rt.alloc(), true, WITH_DEV));
-    assert!(rt; are_rows(rt.alloc(), false, WITHOUT));
+fn rows_stand_in_order(rt: HostRuntime) -> Result<(), Fail> {
+    assert!(rt; are_rows(rt.alloc(), true, WITH_DEV)?);
+    assert!(rt; are_rows(rt.alloc(), false, WITHOUT)?);
+    Ok(())
 }
