@@ -1,11 +1,11 @@
 -- What is read is well-formed.
-use Rattle.std.proofs.Common.{◌≡◌, ℕ, Bool, true, false, cond, List, [], ◌∷◌, ◌++◌, Option, Some, None, Result, Ok, Err, refl, sym, ap, subst, ◌∙◌}
-use Rattle.std.specs.Prelude.{IfSome, IfOk, not, ◌&&◌}
-use Rattle.std.specs.List.{AllByRecursion, enumerate_from, list_all, list_any}
-use Rattle.std.specs.Option.{option_to_list}
-use Rattle.path_name.specs.Given.{GivesValue, ◌>>=◌}
+use Rattle.std.proofs.Common.{◌≡◌, ℕ, Bool, true, false, cond, List, [], ◌∷◌, Option, Some, None, Result, Ok, Err, refl, sym, ap, subst, ◌∙◌}
+use Rattle.std.specs.Prelude.{IfSome, not, ◌&&◌, ◌||◌}
+use Rattle.std.specs.List.{AllByRecursion, IsDistinct, enumerate_from, list_all}
+use Rattle.std.specs.Cmp.Lexicographic.{bytes_decides}
 use Rattle.path_name.specs.Bytes.{lowered}
-use Rattle.path_name.specs.Paths.{IsPath, path_of}
+use Rattle.path_name.specs.Orders.{bytes_are_equal}
+use Rattle.path_name.specs.Paths.{path_of}
 use Rattle.path_name.specs.FolderRefs.{folder_of}
 use Rattle.path_name.specs.declared.folder_ref.FolderRef.{FolderRef}
 use Rattle.path_name.specs.declared.fault.PathFault.{PathFault}
@@ -21,7 +21,7 @@ use Rattle.constraint_set.specs.declared.fault.ConstraintFault.{ConstraintFault}
 use Rattle.constraint_set.specs.declared.fault.ConstraintFault.TheVariants as constraint_faults
 use Rattle.constraint_set.specs.Constraints.{constraint_of}
 use Rattle.manifest_read.specs.declared.fault.FieldFault.{FieldFault}
-use Rattle.manifest_read.specs.declared.fault.FieldFault.TheVariants.{BadField, NotOffered, OutOfMemory, ReservedName}
+use Rattle.manifest_read.specs.declared.fault.FieldFault.TheVariants.{BadField, NotOffered, ReservedName}
 use Rattle.manifest_read.specs.declared.key.Key.{Key}
 use Rattle.manifest_read.specs.declared.key.Key.TheVariants as keys
 use Rattle.manifest_read.specs.declared.types.Role.{Role}
@@ -43,73 +43,18 @@ use Rattle.manifest_read.specs.declared.config.Config.{Config}
 use Rattle.manifest_read.specs.declared.settings.Settings.{Settings}
 use Rattle.manifest_read.specs.Keys.{Pairs, value_at}
 use Rattle.manifest_read.specs.Pointers.{below, at_key, at_item}
-use Rattle.manifest_read.specs.Values.{items_in, text_at, list_at, object_at, if_there, each}
+use Rattle.manifest_read.specs.Values.{items_in, text_at, list_at, object_at}
 use Rattle.manifest_read.specs.Names.{is_package_name, is_platform_name, is_link_name, is_reserved}
 use Rattle.manifest_read.specs.Versions.{version_or_fault, version_at}
 use Rattle.manifest_read.specs.Links.{kept, link_name_at, constraint_or_fault, constraint_at, link_at, links_in, links_of}
-use Rattle.manifest_read.specs.Autoloads.{texts_of, path_or_fault, path_at, is_barred, is_star, is_offered, path_text_at, path_texts_at, paths_in, paths_of, without_backslashes, is_prefix, prefix_at, folders_from, folders_at, prefix_dirs_at, prefixes_in, standard_key, prefixes_of, no_rules, rules_in, autoload_in, autoload_of}
-use Rattle.manifest_read.specs.Repositories.{path_type_of, plain_at, folder_or_fault, folder_at, begins_with_slash, is_own_folder, is_pattern, is_offered_url, url_at, url_of, is_only_packagist_off, is_packagist_off, repository_at, entry_at, named_entry_at, each_there, repositories_from, repositories_in, repositories_of}
+use Rattle.manifest_read.specs.Autoloads.{texts_of, path_or_fault, path_at, is_barred, is_offered, path_text_at, path_texts_at, paths_in, paths_of, without_backslashes, is_prefix, prefix_at, folders_from, folders_at, prefix_dirs_at, prefixes_in, standard_key, prefixes_of, no_rules, rules_in, autoload_in, autoload_of}
+use Rattle.manifest_read.specs.Repositories.{path_type_of, plain_at, folder_or_fault, folder_at, begins_with_slash, is_own_folder, is_pattern, is_offered_url, url_at, url_of, is_only_packagist_off, is_packagist_off, repository_at, entry_at, named_entry_at, repositories_from, repositories_in, repositories_of}
 use Rattle.manifest_read.specs.Settings.{minimum_of, boolean_of, vendor_dir_of, platform_version_at, platform_name_at, platform_row_at, platform_in, platform_of, no_config, config_in, config_at, config_of, no_settings, root_settings, settings_of}
-use Rattle.manifest_read.specs.Packages.{version_text_of, entry_version_text_of, kind_of, plain_package_at, package_name_at, member_name_at, name_of, head_of, entry_head_of, others_of, package_entry_from, package_entry_of}
+use Rattle.manifest_read.specs.Packages.{version_text_of, entry_version_text_of, kind_of, plain_package_at, package_name_at, member_name_at, root_name, name_of, head_of, entry_head_of, others_of, package_entry_from, package_entry_of}
 use Rattle.manifest_read.specs.Manifests.{dev_links_of, dev_autoload_of, manifest_from, manifest_of}
-use Rattle.manifest_read.specs.WellFormed.{IsLink, IsPathText, IsPrefixDirs, IsAutoload, IsMemberName, IsPackage, IsMember, IsPlatformRow, IsRepository, IsManifest}
-
--- ---- steps that may refuse
-
-abbrev Answers : {X : Type 0} → Result X FieldFault → X → Type 0
-Answers r x = r ≡ Ok x
-
-same_value : {X : Type 0} (x y : X) → Answers (Ok x) y → x ≡ y
-same_value x y e = cc
-
-both : {X Y : Type 0} (r : Result X FieldFault) (next : X → Result Y FieldFault) (y : Y) → r >>= next ≡ Ok y → (x : X) × (r ≡ Ok x) × (next x ≡ Ok y)
-both (Ok x) next y e = (x, refl, e)
-both (Err fault) next y e = absurd cc
-
-passed : {X : Type 0} (b : Bool) (x y : X) (fault : FieldFault) → cond b (Ok x) (Err fault) ≡ Ok y → (b ≡ true) × (x ≡ y)
-passed true x y fault e = (refl, cc)
-passed false x y fault e = absurd cc
-
-barred : {X : Type 0} (b : Bool) (x y : X) (fault : FieldFault) → cond b (Err fault) (Ok x) ≡ Ok y → (b ≡ false) × (x ≡ y)
-barred true x y fault e = absurd cc
-barred false x y fault e = (refl, cc)
-
-there : {X : Type 0} (found : Option JsonTree) (missing : Result X FieldFault) (read : JsonTree → Result X FieldFault) (P : X → Type 0) (x : X)
-    → ((y : X) → missing ≡ Ok y → P y) → ((v : JsonTree) (y : X) → read v ≡ Ok y → P y) → if_there found missing read ≡ Ok x → P x
-there None missing read P x otherwise from e = otherwise x e
-there (Some v) missing read P x otherwise from e = from v x e
-
-none_missing : {Y : Type 0} (P : Y → Type 0) (ys : List Y) → Answers (Ok []) ys → AllByRecursion P ys
-none_missing P [] e = tt
-none_missing P (y ∷ ys) e = absurd cc
-
-all_read : {X Y : Type 0} (read : X → Result Y FieldFault) (P : Y → Type 0) → ((x : X) (y : Y) → read x ≡ Ok y → P y) → (xs : List X) (ys : List Y) → each read xs ≡ Ok ys → AllByRecursion P ys
-unfolding each
-all_read read P h [] ys e = none_missing P ys e
-all_read read P h (x ∷ xs) ys e =
-    let first = both (read x) _ ys e in
-    let more = both (each read xs) _ ys first.2 in
-    let same : first.0 ∷ more.0 ≡ ys = cc in
-    subst (λ zs. AllByRecursion P zs) same (h x first.0 first.1, all_read read P h xs more.0 more.1)
-
-some_more : {Y : Type 0} (P : Y → Type 0) (y : Option Y) (ys : List Y) → IfSome y P → AllByRecursion P ys → AllByRecursion P (option_to_list y ++ ys)
-some_more P None ys h all = all
-some_more P (Some y) ys h all = (h, all)
-
-all_there : {X Y : Type 0} (read : X → Result (Option Y) FieldFault) (P : Y → Type 0) → ((x : X) (y : Option Y) → read x ≡ Ok y → IfSome y P) → (xs : List X) (ys : List Y) → each_there read xs ≡ Ok ys
-    → AllByRecursion P ys
-unfolding each_there
-all_there read P h [] ys e = none_missing P ys e
-all_there read P h (x ∷ xs) ys e =
-    let first = both (read x) _ ys e in
-    let more = both (each_there read xs) _ ys first.2 in
-    let same : option_to_list first.0 ++ more.0 ≡ ys = cc in
-    subst (λ zs. AllByRecursion P zs) same (some_more P first.0 more.0 (h x first.0 first.1) (all_there read P h xs more.0 more.1))
-
--- what holds of each value that is wanted holds of the one that is given
-pub if_given : {X : Type 0} (P : X → Type 0) (wanted result : Result X FieldFault) → GivesValue OutOfMemory wanted result → ((x : X) → wanted ≡ Ok x → P x) → IfOk result P
-if_given P wanted (Ok x) gives all = all x gives
-if_given P wanted (Err fault) gives all = tt
+use Rattle.manifest_read.specs.WellFormed.{IsLink, HaveDistinctNames, IsPathText, IsPrefixDirs, IsAutoload, IsNameOf, IsMember, IsPackage, IsPlatformRow, IsRepository, IsManifest}
+use Rattle.manifest_read.proofs.Steps.{Answers, same_value, both, passed, barred, there, none_missing, all_read, each_map, all_there}
+use Rattle.manifest_read.proofs.Distinct.{small, kept_distinct}
 
 -- ---- links
 
@@ -130,11 +75,40 @@ link_formed own at pair link e =
     let same : made ≡ link = cc in
     subst (IsLink own) same (record { name = subst (λ n. is_link_name n ≡ true) named.1 named.0; wants = constraint_read (below at pair.0) (constraint_of b.0 own) c.0 c.1 })
 
-links_formed : (own : Version) (at : List ℕ) (pairs : Pairs) (key : Key) (links : List Link) → links_of own at pairs key ≡ Ok links → AllByRecursion (IsLink own) links
-unfolding links_of links_in
+link_name : (own : Version) (at : List ℕ) (pair : List ℕ × JsonTree) (link : Link) → link_at own at pair ≡ Ok link → link.name ≡ small pair
+unfolding link_at link_name_at
+link_name own at pair link e =
+    let a = both (link_name_at (below at pair.0) pair.0) _ link e in
+    let b = both (text_at (below at pair.0) pair.1) _ link a.2 in
+    let c = both (constraint_at (below at pair.0) own b.0) _ link b.2 in
+    let named = passed (is_link_name (lowered pair.0)) (lowered pair.0) a.0 (BadField (below at pair.0)) a.1 in
+    let made : Link = record { name = a.0; text = b.0; wants = c.0 } in
+    let same : made ≡ link = cc in
+    ap (λ (l : Link). l.name) (sym same) ∙ sym named.1
+
+-- the links of one key
+record AreLinks (own : Version) (links : List Link) : Type 0 where
+  each : AllByRecursion (IsLink own) links
+  distinct : HaveDistinctNames links
+
+no_links : (own : Version) (links : List Link) → Answers (Ok []) links → AreLinks own links
+unfolding IsDistinct
+no_links own [] e = record { each = tt; distinct = tt }
+no_links own (link ∷ links) e = absurd cc
+
+links_from : (own : Version) (pointer : List ℕ) (v : JsonTree) (links : List Link) → links_in own pointer v ≡ Ok links → AreLinks own links
+unfolding links_in
+links_from own pointer v links e =
+    let a = both (object_at pointer v) _ links e in
+    record {
+      each = all_read (link_at own pointer) (IsLink own) (link_formed own pointer) (kept a.0) links a.2;
+      distinct = subst (IsDistinct bytes_are_equal) (sym (each_map (link_at own pointer) (λ (l : Link). l.name) small (link_name own pointer) (kept a.0) links a.2)) (kept_distinct [] a.0);
+    }
+
+links_formed : (own : Version) (at : List ℕ) (pairs : Pairs) (key : Key) (links : List Link) → links_of own at pairs key ≡ Ok links → AreLinks own links
+unfolding links_of
 links_formed own at pairs key links e =
-    there (value_at pairs key) (Ok []) (links_in own (at_key at key)) (AllByRecursion (IsLink own)) links (none_missing (IsLink own))
-    (λ v found is. let a = both (object_at (at_key at key) v) _ found is in all_read (link_at own (at_key at key)) (IsLink own) (link_formed own (at_key at key)) (kept a.0) found a.2) e
+    there (value_at pairs key) (Ok []) (links_in own (at_key at key)) (AreLinks own) links (no_links own) (links_from own (at_key at key)) e
 
 -- ---- paths
 
@@ -263,7 +237,7 @@ url_formed pointer v repository e =
     let b = both (folder_at pointer a.0) _ repository a.2 in
     let made : Repository = record { up = b.0.up; segments = b.0.path; written = a.0 } in
     let fits = passed (is_offered_url a.0 b.0) made repository (NotOffered pointer) b.2 in
-    subst IsRepository fits.1 (record { segments = folder_of_is_path a.0 b.0 (folder_read pointer (folder_of a.0) b.0 b.1); patterns = offered_url a.0 b.0 fits.0 })
+    subst IsRepository fits.1 (record { read = folder_read pointer (folder_of a.0) b.0 b.1; segments = folder_of_is_path a.0 b.0 (folder_read pointer (folder_of a.0) b.0 b.1); patterns = offered_url a.0 b.0 fits.0 })
 
 url_of_formed : (at : List ℕ) (pairs : Pairs) (repository : Repository) → url_of at pairs ≡ Ok repository → IsRepository repository
 unfolding url_of
@@ -377,10 +351,43 @@ version_read pointer (Err version_faults.DateVersion) version e = absurd cc
 version_read pointer (Err version_faults.NotAVersion) version e = absurd cc
 version_read pointer (Err version_faults.OutOfMemory) version e = absurd cc
 
-abbrev IsHead : Head → Type 0
-IsHead head = normal_form head.version_text ≡ Ok head.version
+-- ---- names
 
-head_formed : (role : Role) (at : List ℕ) (pairs : Pairs) (head : Head) → head_of role at pairs ≡ Ok head → IsHead head
+package_named : (pointer : List ℕ) (v : JsonTree) (name : List ℕ) → package_name_at pointer v ≡ Ok name → is_package_name name ≡ true
+unfolding package_name_at
+package_named pointer v name e =
+    let t = both (text_at pointer v) _ name e in
+    let form = passed (is_package_name (lowered t.0)) (lowered t.0) name (BadField pointer) t.2 in
+    subst (λ n. is_package_name n ≡ true) form.1 form.0
+
+member_named : (pointer : List ℕ) (v : JsonTree) (name : List ℕ) → member_name_at pointer v ≡ Ok name → IsNameOf Member name
+unfolding member_name_at
+member_named pointer v name e =
+    let a = both (package_name_at pointer v) _ name e in
+    let free = barred (is_reserved a.0) a.0 name (ReservedName a.0) a.2 in
+    subst (IsNameOf Member) free.1 (package_named pointer v a.0 a.1, free.0)
+
+with_left : (a b : Bool) → a ≡ true → a || b ≡ true
+with_left true b e = refl
+with_left false b e = absurd cc
+
+with_right : (a b : Bool) → b ≡ true → a || b ≡ true
+with_right true b e = refl
+with_right false b e = e
+
+name_formed : (role : Role) (at : List ℕ) (pairs : Pairs) (name : List ℕ) → name_of role at pairs ≡ Ok name → IsNameOf role name
+unfolding name_of
+name_formed Root at pairs name e =
+    there (value_at pairs keys.Name) (Ok root_name) (package_name_at (at_key at keys.Name)) (IsNameOf Root) name
+    (λ y h. with_right (is_package_name y) (bytes_are_equal y root_name) ((bytes_decides y root_name).1 (sym (same_value root_name y h))))
+    (λ v y h. with_left (is_package_name y) (bytes_are_equal y root_name) (package_named (at_key at keys.Name) v y h)) e
+name_formed Member at pairs name e =
+    there (value_at pairs keys.Name) (Err (BadField (at_key at keys.Name))) (member_name_at (at_key at keys.Name)) (IsNameOf Member) name (λ y h. absurd cc) (member_named (at_key at keys.Name)) e
+
+abbrev IsHead : Role → Head → Type 0
+IsHead role head = IsNameOf role head.name × (normal_form head.version_text ≡ Ok head.version)
+
+head_formed : (role : Role) (at : List ℕ) (pairs : Pairs) (head : Head) → head_of role at pairs ≡ Ok head → IsHead role head
 unfolding head_of version_at
 head_formed role at pairs head e =
     let a = both (name_of role at pairs) _ head e in
@@ -388,41 +395,20 @@ head_formed role at pairs head e =
     let c = both (version_at (at_key at keys.Version) b.0) _ head b.2 in
     let made : Head = record { name = a.0; version_text = b.0; version = c.0 } in
     let same : made ≡ head = cc in
-    subst IsHead same (version_read (at_key at keys.Version) (normal_form b.0) c.0 c.1)
+    subst (IsHead role) same (name_formed role at pairs a.0 a.1, version_read (at_key at keys.Version) (normal_form b.0) c.0 c.1)
 
-member_formed : (pointer : List ℕ) (v : JsonTree) (name : List ℕ) → member_name_at pointer v ≡ Ok name → IsMemberName name
-unfolding member_name_at package_name_at
-member_formed pointer v name e =
-    let a = both (package_name_at pointer v) _ name e in
-    let t = both (text_at pointer v) _ a.0 a.1 in
-    let form = passed (is_package_name (lowered t.0)) (lowered t.0) a.0 (BadField pointer) t.2 in
-    let free = barred (is_reserved a.0) a.0 name (ReservedName a.0) a.2 in
-    subst IsMemberName free.1 (subst (λ n. is_package_name n ≡ true) form.1 form.0, free.0)
-
-entry_head_formed : (at : List ℕ) (pairs : Pairs) (head : Head) → entry_head_of at pairs ≡ Ok head → IsMemberName head.name × IsHead head
-unfolding entry_head_of version_at name_of
+entry_head_formed : (at : List ℕ) (pairs : Pairs) (head : Head) → entry_head_of at pairs ≡ Ok head → IsHead Member head
+unfolding entry_head_of version_at
 entry_head_formed at pairs head e =
     let a = both (name_of Member at pairs) _ head e in
     let b = both (entry_version_text_of at pairs) _ head a.2 in
     let c = both (version_at (at_key at keys.Version) b.0) _ head b.2 in
-    let named = there (value_at pairs keys.Name) (Err (BadField (at_key at keys.Name))) (member_name_at (at_key at keys.Name)) IsMemberName a.0 (λ y h. absurd cc) (member_formed (at_key at keys.Name)) a.1 in
     let made : Head = record { name = a.0; version_text = b.0; version = c.0 } in
     let same : made ≡ head = cc in
-    subst (λ (h : Head). IsMemberName h.name × IsHead h) same (named, version_read (at_key at keys.Version) (normal_form b.0) c.0 c.1)
-
-member_head_formed : (at : List ℕ) (pairs : Pairs) (head : Head) → head_of Member at pairs ≡ Ok head → IsMemberName head.name
-unfolding head_of name_of
-member_head_formed at pairs head e =
-    let a = both (name_of Member at pairs) _ head e in
-    let b = both (version_text_of Member at pairs) _ head a.2 in
-    let c = both (version_at (at_key at keys.Version) b.0) _ head b.2 in
-    let named = there (value_at pairs keys.Name) (Err (BadField (at_key at keys.Name))) (member_name_at (at_key at keys.Name)) IsMemberName a.0 (λ y h. absurd cc) (member_formed (at_key at keys.Name)) a.1 in
-    let made : Head = record { name = a.0; version_text = b.0; version = c.0 } in
-    let same : made ≡ head = cc in
-    subst (λ (h : Head). IsMemberName h.name) same named
+    subst (IsHead Member) same (name_formed Member at pairs a.0 a.1, version_read (at_key at keys.Version) (normal_form b.0) c.0 c.1)
 
 abbrev AreOthers : Version → Others → Type 0
-AreOthers own others = AllByRecursion (IsLink own) others.conflict × AllByRecursion (IsLink own) others.replace × AllByRecursion (IsLink own) others.provide
+AreOthers own others = AreLinks own others.conflict × AreLinks own others.replace × AreLinks own others.provide
 
 others_formed : (own : Version) (at : List ℕ) (pairs : Pairs) (others : Others) → others_of own at pairs ≡ Ok others → AreOthers own others
 unfolding others_of
@@ -434,6 +420,34 @@ others_formed own at pairs others e =
     let same : made ≡ others = cc in
     subst (AreOthers own) same (links_formed own at pairs keys.Conflict a.0 a.1, links_formed own at pairs keys.Replace b.0 b.1, links_formed own at pairs keys.Provide c.0 c.1)
 
+abbrev made_of : Head → List ℕ → List Link → Others → Autoload → Package
+made_of head kind require others rules = record {
+  name = head.name;
+  version_text = head.version_text;
+  version = head.version;
+  kind = kind;
+  require = require;
+  conflict = others.conflict;
+  replace = others.replace;
+  provide = others.provide;
+  autoload = rules;
+}
+
+parts_formed : (role : Role) (head : Head) (kind : List ℕ) (require : List Link) (others : Others) (rules : Autoload) → normal_form head.version_text ≡ Ok head.version → AreLinks head.version require
+    → AreOthers head.version others → IsAutoload role rules → IsPackage role (made_of head kind require others rules)
+parts_formed role head kind require others rules version required rest autoload = record {
+  version = version;
+  require = required.each;
+  conflict = rest.0.each;
+  replace = rest.1.each;
+  provide = rest.2.each;
+  required_names = required.distinct;
+  conflict_names = rest.0.distinct;
+  replaced_names = rest.1.distinct;
+  provided_names = rest.2.distinct;
+  autoload = autoload;
+}
+
 pub entry_package_formed : (at : List ℕ) (pairs : Pairs) (p : Package) → package_entry_from at pairs ≡ Ok p → IsMember p
 unfolding package_entry_from
 entry_package_formed at pairs p e =
@@ -444,19 +458,10 @@ entry_package_formed at pairs p e =
     let a = both (autoload_of Member at pairs keys.Autoload) _ p k.2 in
     let n = both (plain_package_at at pairs) _ p a.2 in
     let head = entry_head_formed at pairs h.0 h.1 in
-    let others = others_formed h.0.version at pairs o.0 o.1 in
-    let made : Package = record { name = h.0.name; version_text = h.0.version_text; version = h.0.version; kind = k.0; require = r.0; conflict = o.0.conflict; replace = o.0.replace; provide = o.0.provide; autoload = a.0 } in
-    let same : made ≡ p = cc in
+    let same : made_of h.0 k.0 r.0 o.0 a.0 ≡ p = same_value (made_of h.0 k.0 r.0 o.0 a.0) p n.2 in
     subst IsMember same (record {
       name = head.0;
-      parts = record {
-        version = head.1;
-        require = links_formed h.0.version at pairs keys.Require r.0 r.1;
-        conflict = others.0;
-        replace = others.1;
-        provide = others.2;
-        autoload = autoload_formed Member at pairs keys.Autoload a.0 a.1;
-      };
+      parts = parts_formed Member h.0 k.0 r.0 o.0 a.0 head.1 (links_formed h.0.version at pairs keys.Require r.0 r.1) (others_formed h.0.version at pairs o.0 o.1) (autoload_formed Member at pairs keys.Autoload a.0 a.1);
     })
 
 pub entries_are_formed : (at : List ℕ) (v : JsonTree) (p : Package) → package_entry_of at v ≡ Ok p → IsMember p
@@ -465,25 +470,19 @@ entries_are_formed at v p e = let a = both (object_at at v) _ p e in entry_packa
 
 -- ---- manifests
 
-dev_links_formed : (role : Role) (own : Version) (at : List ℕ) (pairs : Pairs) (links : List Link) → dev_links_of role own at pairs ≡ Ok links → AllByRecursion (IsLink own) links
+dev_links_formed : (role : Role) (own : Version) (at : List ℕ) (pairs : Pairs) (links : List Link) → dev_links_of role own at pairs ≡ Ok links → AreLinks own links
 unfolding dev_links_of
 dev_links_formed Root own at pairs links e = links_formed own at pairs keys.RequireDev links e
-dev_links_formed Member own at pairs links e = none_missing (IsLink own) links e
+dev_links_formed Member own at pairs links e = no_links own links e
 
 dev_autoload_formed : (role : Role) (at : List ℕ) (pairs : Pairs) (rules : Autoload) → dev_autoload_of role at pairs ≡ Ok rules → IsAutoload role rules
 unfolding dev_autoload_of
 dev_autoload_formed Root at pairs rules e = autoload_formed Root at pairs keys.AutoloadDev rules e
 dev_autoload_formed Member at pairs rules e = no_rules_formed Member rules e
 
-pub record Steps (role : Role) (at : List ℕ) (pairs : Pairs) (m : Manifest) : Type 0 where
-  pub head : Head
-  pub is_head : head_of role at pairs ≡ Ok head
-  pub named : m.package.name ≡ head.name
-  pub formed : IsManifest role m
-
-manifest_steps : (role : Role) (at : List ℕ) (pairs : Pairs) (m : Manifest) → manifest_from role at pairs ≡ Ok m → Steps role at pairs m
+pub pairs_are_formed : (role : Role) (at : List ℕ) (pairs : Pairs) (m : Manifest) → manifest_from role at pairs ≡ Ok m → IsManifest role m
 unfolding manifest_from
-manifest_steps role at pairs m e =
+pairs_are_formed role at pairs m e =
     let h = both (head_of role at pairs) _ m e in
     let k = both (kind_of at pairs) _ m h.2 in
     let r = both (links_of h.0.version at pairs keys.Require) _ m k.2 in
@@ -493,10 +492,11 @@ manifest_steps role at pairs m e =
     let b = both (dev_autoload_of role at pairs) _ m a.2 in
     let s = both (settings_of role at pairs) _ m b.2 in
     let n = both (plain_package_at at pairs) _ m s.2 in
-    let others = others_formed h.0.version at pairs o.0 o.1 in
+    let head = head_formed role at pairs h.0 h.1 in
+    let dev = dev_links_formed role h.0.version at pairs d.0 d.1 in
     let settings = settings_formed role at pairs s.0 s.1 in
     let made : Manifest = record {
-      «package» = record { name = h.0.name; version_text = h.0.version_text; version = h.0.version; kind = k.0; require = r.0; conflict = o.0.conflict; replace = o.0.replace; provide = o.0.provide; autoload = a.0 };
+      «package» = made_of h.0 k.0 r.0 o.0 a.0;
       require_dev = d.0;
       autoload_dev = b.0;
       repositories = s.0.repositories;
@@ -507,36 +507,19 @@ manifest_steps role at pairs m e =
       authoritative = s.0.config.authoritative;
     } in
     let same : made ≡ m = same_value made m n.2 in
-    subst (Steps role at pairs) same (record {
-      head = h.0;
-      is_head = h.1;
-      named = refl;
-      formed = record {
-        parts = record {
-          version = head_formed role at pairs h.0 h.1;
-          require = links_formed h.0.version at pairs keys.Require r.0 r.1;
-          conflict = others.0;
-          replace = others.1;
-          provide = others.2;
-          autoload = autoload_formed role at pairs keys.Autoload a.0 a.1;
-        };
-        require_dev = dev_links_formed role h.0.version at pairs d.0 d.1;
-        autoload_dev = dev_autoload_formed role at pairs b.0 b.1;
-        repositories = settings.0;
-        platform = settings.1;
-      };
+    subst (IsManifest role) same (record {
+      name = head.0;
+      parts = parts_formed role h.0 k.0 r.0 o.0 a.0 head.1 (links_formed h.0.version at pairs keys.Require r.0 r.1) (others_formed h.0.version at pairs o.0 o.1) (autoload_formed role at pairs keys.Autoload a.0 a.1);
+      require_dev = dev.each;
+      require_dev_names = dev.distinct;
+      autoload_dev = dev_autoload_formed role at pairs b.0 b.1;
+      repositories = settings.0;
+      platform = settings.1;
     })
-
-pub pairs_are_formed : (role : Role) (at : List ℕ) (pairs : Pairs) (m : Manifest) → manifest_from role at pairs ≡ Ok m → IsManifest role m
-pairs_are_formed role at pairs m e = (manifest_steps role at pairs m e).formed
 
 pub manifests_are_formed : (role : Role) (v : JsonTree) (m : Manifest) → manifest_of role v ≡ Ok m → IsManifest role m
 unfolding manifest_of
-manifests_are_formed role v m e = let a = both (object_at [] v) _ m e in (manifest_steps role [] a.0 m a.2).formed
+manifests_are_formed role v m e = let a = both (object_at [] v) _ m e in pairs_are_formed role [] a.0 m a.2
 
 pub members_are_formed : (v : JsonTree) (m : Manifest) → manifest_of Member v ≡ Ok m → IsMember m.package
-unfolding manifest_of
-members_are_formed v m e =
-    let a = both (object_at [] v) _ m e in
-    let s = manifest_steps Member [] a.0 m a.2 in
-    record { name = subst IsMemberName (sym s.named) (member_head_formed [] a.0 s.head s.is_head); parts = s.formed.parts }
+members_are_formed v m e = let a = manifests_are_formed Member v m e in record { name = a.name; parts = a.parts }

@@ -1,5 +1,10 @@
 pub mod Gathering
 pub mod Forms
 pub mod Keeping
+pub mod Steps
+pub mod Distinct
 pub mod Formed
+pub mod NameParts
+pub mod NameBytes
+pub mod Written
 pub mod Tokens

@@ -1,12 +1,11 @@
 -- A pointer is read back as the tokens that it was made of.
 use Rattle.std.proofs.Common.{◌≡◌, ℕ, Bool, true, false, cond, ◌&&◌, List, [], ◌∷◌, ◌++◌, map, refl, sym, ap, ◌∙◌}
 use Rattle.std.specs.Prelude.{◌==◌, not}
-use Rattle.std.specs.List.{list_all, slice_split}
 use Rattle.std.proofs.lemmas.List.{map-append}
 use Rattle.std.proofs.lemmas.Bool.{eqb-true}
-use Rattle.path_name.specs.Paths.{is_slash, has_no_slash}
+use Rattle.path_name.specs.Paths.{has_no_slash}
 use Rattle.path_name.proofs.Joining.{split, split_at, split_whole}
-use Rattle.manifest_read.specs.Pointers.{escaped_byte, escaped, below, unescaped, IsPointer, tokens_of}
+use Rattle.manifest_read.specs.Pointers.{escaped, below, unescaped, IsPointer, tokens_of}
 
 other_byte : (b : ℕ) (rest : List ℕ) → (b == 126) ≡ false → unescaped (b ∷ rest) ≡ b ∷ unescaped rest
 other_byte b [] e = refl

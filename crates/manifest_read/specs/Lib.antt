@@ -2,6 +2,7 @@ pub mod Keys
 pub mod Pointers
 pub mod Values
 pub mod Names
+pub mod NameGrammar
 pub mod Versions
 pub mod Links
 pub mod Autoloads
@@ -10,3 +11,4 @@ pub mod Settings
 pub mod Packages
 pub mod Manifests
 pub mod WellFormed
+pub mod Writable

@@ -1,5 +1,5 @@
 -- A manifest: what a composer.json says, or its first fault (Composer's documentation, "The composer.json schema").
-use Rattle.std.specs.Prelude.{ℕ, List, [], Result, Ok, Err}
+use Rattle.std.specs.Prelude.{ℕ, List, [], Result, Ok}
 use Rattle.path_name.specs.Given.{◌>>=◌}
 use Rattle.json_ordered.specs.JsonTree.{JsonTree}
 use Rattle.version_norm.specs.declared.version.Version.{Version}

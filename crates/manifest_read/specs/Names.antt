@@ -1,6 +1,6 @@
 -- Names of packages and of platform packages (Composer's documentation, "The composer.json schema", "name", and
 -- "Basic usage", "Platform packages").
-use Rattle.std.specs.Prelude.{ℕ, ◌+◌, ◌<◌, Bool, true, false, ◌&&◌, ◌||◌, ◌==◌, nat_lt, List, [], ◌∷◌, take, drop, length, Option, Some, None, if◌then◌else◌, codes}
+use Rattle.std.specs.Prelude.{ℕ, ◌+◌, Bool, true, false, ◌&&◌, ◌||◌, ◌==◌, nat_lt, List, [], ◌∷◌, take, drop, length, Option, Some, None, if◌then◌else◌, codes}
 use Rattle.std.specs.List.{list_any, position_or_len}
 use Rattle.path_name.specs.Bytes.{is_digit, is_between}
 use Rattle.path_name.specs.Orders.{bytes_are_equal}

@@ -1,16 +1,14 @@
 -- A package, as a composer.json or an entry of a lock describes it (Composer's documentation, "The composer.json schema").
-use Rattle.std.specs.Prelude.{ℕ, List, [], ◌∷◌, Result, Ok, Err, if◌then◌else◌, codes}
+use Rattle.std.specs.Prelude.{ℕ, List, Result, Ok, Err, if◌then◌else◌, codes}
 use Rattle.path_name.specs.Given.{◌>>=◌}
 use Rattle.path_name.specs.Bytes.{lowered}
 use Rattle.json_ordered.specs.JsonTree.{JsonTree}
 use Rattle.version_norm.specs.declared.version.Version.{Version}
 use Rattle.manifest_read.specs.declared.fault.FieldFault.{FieldFault}
 use Rattle.manifest_read.specs.declared.fault.FieldFault.TheVariants.{BadField, ReservedName}
-use Rattle.manifest_read.specs.declared.key.Key.{Key}
 use Rattle.manifest_read.specs.declared.key.Key.TheVariants as keys
 use Rattle.manifest_read.specs.declared.types.Role.{Role}
 use Rattle.manifest_read.specs.declared.types.Role.TheVariants.{Root, Member}
-use Rattle.manifest_read.specs.declared.types.Link.{Link}
 use Rattle.manifest_read.specs.declared.types.Package.{Package}
 use Rattle.manifest_read.specs.declared.package.Head.{Head}
 use Rattle.manifest_read.specs.declared.package.Others.{Others}

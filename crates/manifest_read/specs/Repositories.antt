@@ -18,7 +18,7 @@ use Rattle.manifest_read.specs.declared.key.Key.TheVariants as keys
 use Rattle.manifest_read.specs.declared.types.Repository.{Repository}
 use Rattle.manifest_read.specs.Keys.{Pairs, key_text, value_at}
 use Rattle.manifest_read.specs.Pointers.{below, at_key, at_item}
-use Rattle.manifest_read.specs.Values.{items_in, pairs_in, text_at, object_at, if_there}
+use Rattle.manifest_read.specs.Values.{items_in, text_at, object_at, if_there}
 use Rattle.manifest_read.specs.Autoloads.{is_star}
 
 -- ---- the url

@@ -1,5 +1,5 @@
 -- What a root says beside its package (Composer's documentation, "The composer.json schema" and "Config").
-use Rattle.std.specs.Prelude.{ℕ, Bool, true, false, not, List, [], ◌∷◌, Option, Some, None, Result, Ok, Err, if◌then◌else◌, codes}
+use Rattle.std.specs.Prelude.{ℕ, Bool, false, List, [], Option, Some, None, Result, Ok, Err, if◌then◌else◌, codes}
 use Rattle.path_name.specs.Given.{◌>>=◌}
 use Rattle.path_name.specs.Orders.{bytes_are_equal}
 use Rattle.json_ordered.specs.JsonTree.{JsonTree}
@@ -14,7 +14,6 @@ use Rattle.manifest_read.specs.declared.key.Key.TheVariants as keys
 use Rattle.manifest_read.specs.declared.types.Role.{Role}
 use Rattle.manifest_read.specs.declared.types.Role.TheVariants.{Root, Member}
 use Rattle.manifest_read.specs.declared.types.PlatformRow.{PlatformRow}
-use Rattle.manifest_read.specs.declared.types.Repository.{Repository}
 use Rattle.manifest_read.specs.declared.config.Config.{Config}
 use Rattle.manifest_read.specs.declared.settings.Settings.{Settings}
 use Rattle.manifest_read.specs.Keys.{Pairs, value_at}

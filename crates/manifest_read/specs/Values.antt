@@ -1,5 +1,5 @@
 -- Values of JSON by their form, or the fault at their pointer.
-use Rattle.std.specs.Prelude.{ℕ, Bool, List, [], ◌∷◌, ◌++◌, Option, Some, None, Result, Ok, Err}
+use Rattle.std.specs.Prelude.{ℕ, Bool, List, [], ◌∷◌, Option, Some, None, Result, Ok}
 use Rattle.std.specs.Option.{ok_or}
 use Rattle.path_name.specs.Given.{◌>>=◌}
 use Rattle.json_ordered.specs.JsonTree.{JsonTree, Array, Object, Items, no_items, item, Members, no_members, member}

@@ -1,7 +1,9 @@
 -- What is known of each part of what is read.
-use Rattle.std.specs.Prelude.{◌≡◌, ℕ, Bool, true, false, List, Option, Result, Ok}
-use Rattle.std.specs.List.{AllByRecursion, list_all}
+use Rattle.std.specs.Prelude.{◌≡◌, ℕ, true, false, ◌||◌, List, map, Ok}
+use Rattle.std.specs.List.{AllByRecursion, IsDistinct, list_all}
+use Rattle.path_name.specs.Orders.{bytes_are_equal}
 use Rattle.path_name.specs.Paths.{IsPath, path_of}
+use Rattle.path_name.specs.FolderRefs.{folder_of}
 use Rattle.version_norm.specs.declared.version.Version.{Version}
 use Rattle.version_norm.specs.Versions.{normal_form}
 use Rattle.constraint_set.specs.Constraints.{constraint_of}
@@ -28,6 +30,10 @@ pub record IsLink (own : Version) (link : Link) : Type 0 where
   pub name : is_link_name link.name ≡ true
   pub wants : constraint_of link.text own ≡ Ok link.wants
 
+-- no two links have one name
+abbrev pub HaveDistinctNames : List Link → Type 0
+HaveDistinctNames links = IsDistinct bytes_are_equal (map (λ (link : Link). link.name) links)
+
 -- the path is that of the text, and one of a root does not lead into what an install writes
 pub record IsPathText (role : Role) (p : PathText) : Type 0 where
   pub read : path_of p.written ≡ Ok p.path
@@ -50,12 +56,21 @@ pub record IsAutoload (role : Role) (rules : Autoload) : Type 0 where
 abbrev pub IsMemberName : List ℕ → Type 0
 IsMemberName name = (is_package_name name ≡ true) × (is_reserved name ≡ false)
 
+-- a root may have no name, and has then one that is no package's
+abbrev pub IsNameOf : Role → List ℕ → Type 0
+IsNameOf Root name = is_package_name name || bytes_are_equal name root_name ≡ true
+IsNameOf Member name = IsMemberName name
+
 pub record IsPackage (role : Role) (p : Package) : Type 0 where
   pub version : normal_form p.version_text ≡ Ok p.version
   pub require : AllByRecursion (IsLink p.version) p.require
   pub conflict : AllByRecursion (IsLink p.version) p.conflict
   pub replace : AllByRecursion (IsLink p.version) p.replace
   pub provide : AllByRecursion (IsLink p.version) p.provide
+  pub required_names : HaveDistinctNames p.require
+  pub conflict_names : HaveDistinctNames p.conflict
+  pub replaced_names : HaveDistinctNames p.replace
+  pub provided_names : HaveDistinctNames p.provide
   pub autoload : IsAutoload role p.autoload
 
 -- a member: a package of that name
@@ -66,14 +81,17 @@ pub record IsMember (p : Package) : Type 0 where
 pub record IsPlatformRow (row : PlatformRow) : Type 0 where
   pub name : is_platform_name row.name ≡ true
 
--- its segments are those of a path, in which a `*` stands alone
+-- it is the folder that its text names, and a `*` stands alone in its segment
 pub record IsRepository (repository : Repository) : Type 0 where
+  pub read : folder_of repository.written ≡ Ok (record { up = repository.up; path = repository.segments })
   pub segments : IsPath repository.segments
   pub patterns : list_all is_pattern repository.segments ≡ true
 
 pub record IsManifest (role : Role) (m : Manifest) : Type 0 where
+  pub name : IsNameOf role m.package.name
   pub parts : IsPackage role m.package
   pub require_dev : AllByRecursion (IsLink m.package.version) m.require_dev
+  pub require_dev_names : HaveDistinctNames m.require_dev
   pub autoload_dev : IsAutoload role m.autoload_dev
   pub repositories : AllByRecursion IsRepository m.repositories
   pub platform : AllByRecursion IsPlatformRow m.platform

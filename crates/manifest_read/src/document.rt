@@ -5,6 +5,7 @@ ghost use Rattle.path_name.specs.Given.{Gives, GivesValue};
 ghost use Rattle.json_ordered.specs.Docs.{tree_of, pair_of};
 ghost use Rattle.manifest_read.specs.declared.fault.FieldFault.TheVariants.{OutOfMemory};
 ghost use Rattle.manifest_read.specs.WellFormed.{IsManifest};
+ghost use Rattle.manifest_read.specs.Writable.{IsWritten, IsWritableManifest};
 ghost use Rattle.manifest_read.specs.Manifests.{dev_links_of, dev_autoload_of, manifest_from, manifest_of};
 
 use crate::autoload::{autoload_of, no_rules};
@@ -132,6 +133,8 @@ pub fn from_doc(alloc: Global, doc: &Doc, role: Role) -> Result<Manifest, FieldF
     ensures exact { GivesValue OutOfMemory (manifest_of role (tree_of doc.now)) result }
     // Each part of what is read has its form.
     ensures formed { IfOk result (λ manifest. IsManifest role manifest) }
+    // Texts are UTF-8 and names distinct, where those of the document are.
+    ensures writable { IsWritten (tree_of doc.now) → IfOk result (λ manifest. IsWritableManifest manifest) }
 {
     let pairs = object(alloc, b"", doc)?;
     manifest_from(alloc, role, b"", pairs)

@@ -20,7 +20,7 @@ mod values;
 
 pub use document::from_doc;
 pub use fault::FieldFault;
-pub use laws::{pointers, well_formed};
+pub use laws::{name_grammar, pointers, well_formed};
 pub use package::{Head, package_from_doc, read_head};
 pub use types::{
     Autoload, Link, Manifest, Package, PathText, PlatformRow, PrefixDirs, Repository, Role,

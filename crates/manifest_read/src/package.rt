@@ -6,6 +6,7 @@ ghost use Rattle.json_ordered.specs.Docs.{tree_of, pair_of};
 ghost use Rattle.manifest_read.specs.declared.fault.FieldFault.TheVariants.{OutOfMemory};
 ghost use Rattle.manifest_read.specs.Pointers.{below};
 ghost use Rattle.manifest_read.specs.WellFormed.{IsMember};
+ghost use Rattle.manifest_read.specs.Writable.{IsWritten, IsWritablePackage};
 ghost use Rattle.manifest_read.specs.Packages.{package_name_at, member_name_at, root_name, name_of, default_version, version_text_of, entry_version_text_of, head_of, entry_head_of, library, kind_of, others_of, plain_package_at, package_entry_from, package_entry_of, package_head_of};
 
 use crate::autoload::autoload_of;
@@ -270,6 +271,8 @@ pub fn package_from_doc(alloc: Global, doc: &Doc, at: &[u8]) -> Result<Package, 
     ensures exact { GivesValue OutOfMemory (package_entry_of at.now (tree_of doc.now)) result }
     // Each part of what is read has its form.
     ensures formed { IfOk result IsMember }
+    // Texts are UTF-8 and names distinct, where those of the document are.
+    ensures writable { IsWritten (tree_of doc.now) → IfOk result (λ entry. IsWritablePackage entry) }
 {
     let pairs = object(alloc, at, doc)?;
     package_entry(alloc, at, pairs)

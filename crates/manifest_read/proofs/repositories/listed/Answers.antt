@@ -3,7 +3,7 @@ use Rattle.std.proofs.lemmas.List.{append-nil}
 use Rattle.std.specs.Option.{option_to_list}
 use Rattle.std.proofs.lemmas.Result.{err_from_is_err_and}
 use Rattle.json_ordered.specs.JsonTree.{JsonTree}
-use Rattle.json_ordered.specs.Docs.{tree_of, pair_of}
+use Rattle.json_ordered.specs.Docs.{tree_of}
 use Rattle.manifest_read.specs.Pointers.{at_item}
 use Rattle.manifest_read.specs.Repositories.{entry_at}
 use Rattle.manifest_read.proofs.Gathering.{numbered_there_step, numbered_there_stop, numbered_there_end}

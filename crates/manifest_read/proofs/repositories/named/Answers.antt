@@ -1,10 +1,8 @@
-use Rattle.std.proofs.Common.{ℕ, ◌≡◌, ◌++◌, ap, sym, ◌∙◌, Ok}
+use Rattle.std.proofs.Common.{◌≡◌, ◌++◌, ap, sym, ◌∙◌, Ok}
 use Rattle.std.proofs.lemmas.List.{append-nil}
 use Rattle.std.specs.Option.{option_to_list}
 use Rattle.std.proofs.lemmas.Result.{err_from_is_err_and}
-use Rattle.json_ordered.specs.JsonTree.{JsonTree}
-use Rattle.json_ordered.specs.Docs.{tree_of, pair_of}
-use Rattle.manifest_read.specs.Pointers.{at_item}
+use Rattle.json_ordered.specs.Docs.{pair_of}
 use Rattle.manifest_read.specs.Repositories.{named_entry_at}
 use Rattle.manifest_read.proofs.Gathering.{there_step, there_stop, there_end}
 use Rattle.manifest_read.proofs.repositories.named.Goals as goal
