@@ -27,4 +27,8 @@ pub use types::{
 };
 
 #[cfg(test)]
+mod root_tests;
+#[cfg(test)]
+mod samples;
+#[cfg(test)]
 mod tests;

@@ -4,12 +4,12 @@ use std::alloc::Global;
 use std::test::*;
 use version_norm::Grade;
 
-fn document(alloc: Global, text: &str) -> Option<Doc> {
+pub(crate) fn document(alloc: Global, text: &str) -> Option<Doc> {
     json_ordered::read(alloc, text.as_bytes()).ok()
 }
 
 /// Whether a document is read.
-fn is_read(alloc: Global, text: &str, role: Role) -> bool {
+pub(crate) fn is_read(alloc: Global, text: &str, role: Role) -> bool {
     match document(alloc, text) {
         Some(doc) => from_doc(alloc, &doc, role).is_ok(),
         None => false,
@@ -24,7 +24,7 @@ fn fault_of(alloc: Global, text: &str, role: Role) -> Option<FieldFault> {
     }
 }
 
-fn is_bad(alloc: Global, text: &str, role: Role, place: &str) -> bool {
+pub(crate) fn is_bad(alloc: Global, text: &str, role: Role, place: &str) -> bool {
     match fault_of(alloc, text, role) {
         Some(FieldFault::BadField(pointer)) => pointer.as_slice() == place.as_bytes(),
         _ => false,
