@@ -15,6 +15,7 @@ mod package;
 mod pointer;
 mod repositories;
 mod settings;
+mod small_name;
 mod types;
 mod values;
 

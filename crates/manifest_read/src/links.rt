@@ -15,6 +15,7 @@ use crate::fault::FieldFault;
 use crate::key::Key;
 use crate::names;
 use crate::pointer::{bad_field, below, not_offered};
+use crate::small_name::SmallName;
 use crate::types::Link;
 use crate::values::{object, owned_text, value};
 use constraint_set::{Constraint, ConstraintFault};
@@ -28,13 +29,13 @@ use version_norm::Version;
 fn last_pairs<'a>(
     alloc: Global,
     pairs: &'a [(Name, Doc)],
-) -> Result<BTreeMap<Name, &'a (Name, Doc)>, AllocError>
+) -> Result<BTreeMap<SmallName<'a>, &'a (Name, Doc)>, AllocError>
     ensures { IfOk result (λ last. (name : List ℕ) →
         option_map (λ pair. pair_of pair.now) (get byte_cmp last name) ≡ last_named None name (map pair_of pairs.now)) }
 {
     let mut last = BTreeMap::new(alloc);
     for pair in pairs {
-        let name = names::lowered(alloc, pair.0.as_slice())?;
+        let name = SmallName::of(pair.0.as_slice());
         let _earlier = last.insert(name, pair)?;
     }
     Ok(last)
@@ -51,7 +52,7 @@ fn kept_pairs<'a>(
     let mut last = last_pairs(alloc, pairs)?;
     let mut some = Vec::new(alloc);
     for pair in pairs {
-        let name = names::lowered(alloc, pair.0.as_slice())?;
+        let name = SmallName::of(pair.0.as_slice());
         if let Some(pair) = last.remove(&name) {
             some.push(pair)?;
         }

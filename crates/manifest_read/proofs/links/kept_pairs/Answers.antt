@@ -15,8 +15,8 @@ loop-pair-preserved c =
     let xs = c.args.pairs.now in
     let i = c.loop-pair.pair-index in
     let x = c.pair-item.result in
-    let k = c.in_ok-name.name in
-    let named = c.in_ok-name.ensures ∙ ap lowered c.as_slice.ensures in
+    let k = c.of-name.result in
+    let named = c.of-name.ensures ∙ ap lowered c.as_slice.ensures in
     let added : map (λ pair. pair_of pair.now) c.match-remove.some.items ≡ map (λ pair. pair_of pair.now) c.loop-pair.some.items
     ++ option_to_list (option_map (λ pair. pair_of pair.now) (get byte_cmp c.loop-pair.last k)) = elim c.match-remove.branch [
       | in-Some+in_ok-push w ↦ ap (λ s. map (λ pair. pair_of pair.now) s.items) w.some-is ∙ ap (map (λ pair. pair_of pair.now)) w.in_ok-push.ensures.items
