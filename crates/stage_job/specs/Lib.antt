@@ -1,0 +1,10 @@
+pub mod Faults
+pub mod Places
+pub mod Mirrored
+pub mod Jobs
+pub mod Checked
+pub mod Staged
+pub mod Copied
+pub mod Above
+pub mod Parts
+pub mod Staging

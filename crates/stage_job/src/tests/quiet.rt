@@ -1,0 +1,119 @@
+//! A device that tells nothing: a tree in memory behind it, and an entry that it may hide.
+
+ghost use Rattle.std.specs.Prelude.{◌≡◌, is_err, if◌then◌else◌};
+ghost use Rattle.std.specs.Result.{result_ok};
+ghost use Rattle.tree_dev.specs.Device.{is_failed, next};
+
+use path_name::Path;
+use std::alloc::Global;
+use tree_dev::{Did, Failed, Kind, ListAnswer, Made, MemoryTree, ReadAnswer, Tree, TreeFault};
+
+/// A tree in memory of which a contract sees the counts of faults and of writes alone. Reading answers that nothing is at the path
+/// that it hides, which listing shows.
+#[derive(Drop)]
+pub struct Quiet {
+    pub tree: MemoryTree,
+    pub hidden: Option<Path>,
+    faults: u64,
+    writes: u64,
+}
+
+impl Quiet {
+    pub fn over(tree: MemoryTree, hidden: Option<Path>) -> Quiet {
+        Quiet {
+            tree,
+            hidden,
+            faults: 0,
+            writes: 0,
+        }
+    }
+
+    fn hides(&self, at: &Path) -> bool {
+        match &self.hidden {
+            Some(hidden) => hidden == at,
+            None => false,
+        }
+    }
+}
+
+/// The answer of a call that takes no memory, and a count of one fault more where it failed.
+fn answer<X>(faults: &mut u64, found: Result<X, Failed>) -> Result<X, Failed>
+    ensures answer { result_ok result ≡ result_ok found }
+    ensures counted { faults.new ≡ (if is_err result then next faults.old else faults.old) }
+{
+    match found {
+        Ok(answer) => Ok(answer),
+        Err(_) => {
+            *faults = faults.saturating_add(1);
+            Err(Failed)
+        }
+    }
+}
+
+/// The same of a call that takes memory.
+fn answer_in_memory<X>(faults: &mut u64, found: Result<X, TreeFault>) -> Result<X, TreeFault>
+    ensures answer { result_ok result ≡ result_ok found }
+    ensures counted { faults.new ≡ (if is_failed result then next faults.old else faults.old) }
+{
+    match found {
+        Ok(answer) => Ok(answer),
+        Err(TreeFault::OutOfMemory) => Err(TreeFault::OutOfMemory),
+        Err(TreeFault::Failed) => {
+            *faults = faults.saturating_add(1);
+            Err(TreeFault::Failed)
+        }
+    }
+}
+
+impl Tree for Quiet {
+    ghost use Rattle.std.specs.Prelude.{None, []};
+    ghost use Rattle.std.specs.FinMap as map;
+    ghost use Rattle.tree_dev.specs.Disk.{Disk};
+    ghost use Rattle.tree_dev.specs.Told.{nothing_is_told, nothing_is_on_disk};
+
+    ghost meaning = { λ quiet. record { told = None; faults = quiet.faults; writes = quiet.writes; disks = record { now = record { base = map.empty; pending = [] }; past = [] } } };
+
+    fn stat(&mut self, at: &Path) -> Result<Kind, Failed> {
+        answer(&mut self.faults, self.tree.stat(at))
+    }
+
+    fn list(&mut self, alloc: Global, at: &Path, most: u32) -> Result<ListAnswer, TreeFault> {
+        answer_in_memory(&mut self.faults, self.tree.list(alloc, at, most))
+    }
+
+    fn read(&mut self, alloc: Global, at: &Path, most: u64) -> Result<ReadAnswer, TreeFault> {
+        if self.hides(at) {
+            return Ok(ReadAnswer::Absent);
+        }
+        answer_in_memory(&mut self.faults, self.tree.read(alloc, at, most))
+    }
+
+    fn write(&mut self, at: &Path, bytes: &[u8]) -> Result<Did, Failed> {
+        self.writes = self.writes.saturating_add(1);
+        answer(&mut self.faults, self.tree.write(at, bytes))
+    }
+
+    fn make_dir(&mut self, at: &Path) -> Result<Made, Failed> {
+        answer(&mut self.faults, self.tree.make_dir(at))
+    }
+
+    fn rename(&mut self, from: &Path, to: &Path) -> Result<Did, Failed> {
+        answer(&mut self.faults, self.tree.rename(from, to))
+    }
+
+    fn remove_file(&mut self, at: &Path) -> Result<Did, Failed> {
+        answer(&mut self.faults, self.tree.remove_file(at))
+    }
+
+    fn remove_dir(&mut self, at: &Path) -> Result<Did, Failed> {
+        answer(&mut self.faults, self.tree.remove_dir(at))
+    }
+
+    fn barrier(&mut self) -> Result<(), Failed> {
+        answer(&mut self.faults, self.tree.barrier())
+    }
+
+    ghost tells_trees = { λ _ t told. nothing_is_told t told };
+
+    ghost tells_its_disk = { λ _ t told. let disk : Disk = record { base = map.empty; pending = [] } in nothing_is_on_disk disk t told };
+}
