@@ -1,0 +1,12 @@
+pub mod Within
+pub mod Turns
+pub mod ByName
+pub mod Flags
+pub mod Roots
+pub mod Reached
+pub mod Levels
+pub mod Fitting
+pub mod Matching
+pub mod Counting
+pub mod Pooled
+pub mod Vanishing

@@ -1,0 +1,5 @@
+use Rattle.pkg_pool.proofs.Roots.{paths_of}
+use Rattle.pkg_pool.proofs.laws.manifests_have_paths.Goals as goal
+
+pub returns : goal.returns
+returns c = λ root manifest. paths_of root.repositories manifest.repositories
