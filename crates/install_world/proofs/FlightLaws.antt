@@ -39,7 +39,7 @@ on_way project surroundings old new t journal stands small flight = by flight.st
           moving.stands.says (subst (λ text. Says text journal) (sym (same_text project t moving.journal journal moving.stands stands)) stands.says);
     }
 
-few : (project : List (List ℕ)) (t : FileTree) (journal : Journal) (stands : HasJournal project t journal) → length stands.text < 2 ^ 64 → length journal.targets < 2 ^ 64
+pub few : (project : List (List ℕ)) (t : FileTree) (journal : Journal) (stands : HasJournal project t journal) → length stands.text < 2 ^ 64 → length journal.targets < 2 ^ 64
 few project t journal stands small = few_in stands.says.version stands.text journal stands.says.printed small
 
 pub part_target : (project : List (List ℕ)) (t : FileTree) (journal : Journal) → HasJournal project t journal → (number : ℕ) (target : Target) → IsPart journal.targets number target
@@ -72,7 +72,7 @@ module _ (project : List (List ℕ)) (surroundings : FileTree) (old new : Files)
   pub part_on_way : (number : ℕ) (target : Target) → IsPart journal.targets number target → PartInFlight target.gone project old new number target t
   part_on_way number target part = way.moving.parts number target (subst (λ (j : Journal). IsPart j.targets number target) (sym way.by) part)
 
-  stays_in_flight : (number : ℕ) (target : Target) (now : FileTree) → IsPart journal.targets number target → ChangesPart project number target t now
+  pub stays_in_flight : (number : ℕ) (target : Target) (now : FileTree) → IsPart journal.targets number target → ChangesPart project number target t now
       → PartInFlight target.gone project old new number target now → IsInFlight project surroundings old new now
   stays_in_flight number target now part change now_part = record {
     outside = surroundings_stay project surroundings t now number target (part_target project t journal stands number target part) change flight.outside;

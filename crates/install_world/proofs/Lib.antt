@@ -7,13 +7,17 @@ pub mod Grammar
 pub mod GrammarLines
 pub mod LineWords
 pub mod OneJournal
+pub mod JournalEnds
+pub mod PartCleared
 pub mod PartDone
+pub mod PartFinish
 pub mod PartMoves
 pub mod PartPaths
 pub mod PathBytes
 pub mod Places
 pub mod ReadJournal
 pub mod ReadTargets
+pub mod RecoveryRules
 pub mod RemovalRules
 pub mod Segments
 pub mod TargetLines

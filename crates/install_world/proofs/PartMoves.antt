@@ -50,14 +50,14 @@ at_no_target number project path targets target none part = part_none number 0 p
 pub record Agree (t now : FileTree) (at : List (List ℕ)) : Type 0 where
   pub each : (below : List (List ℕ)) → map.get now (at ++ below) ≡ map.get t (at ++ below)
 
-agree_at : (t now : FileTree) (at : List (List ℕ)) → Agree t now at → map.get now at ≡ map.get t at
+pub agree_at : (t now : FileTree) (at : List (List ℕ)) → Agree t now at → map.get now at ≡ map.get t at
 agree_at t now at agree = ap (map.get now) (sym (append-nil at)) ∙ agree.each [] ∙ ap (map.get t) (append-nil at)
 
-files_stay : (t now : FileTree) (at from : List (List ℕ)) (files : Files) → Agree t now at → HasFilesOf t at files from → HasFilesOf now at files from
+pub files_stay : (t now : FileTree) (at from : List (List ℕ)) (files : Files) → Agree t now at → HasFilesOf t at files from → HasFilesOf now at files from
 files_stay t now at from files agree has = record { each = λ below. ap bytes_of (agree.each below) ∙ has.each below }
 
 module _ (project : List (List ℕ)) (old new : Files) (number : ℕ) (target : Target) (t now : FileTree) where
-  staged_stays : Agree t now (staged_path project number) → IsStagedPart project new number target t → IsStagedPart project new number target now
+  pub staged_stays : Agree t now (staged_path project number) → IsStagedPart project new number target t → IsStagedPart project new number target now
   staged_stays agree is = record {
     there = ap is_some (agree_at t now (staged_path project number) agree) ∙ is.there;
     files = files_stay t now (staged_path project number) (target_path project target) new agree is.files;
@@ -211,7 +211,7 @@ renamed_elsewhere t from to path there here = get-changed t (Renamed from to) pa
 pub renamed_away : (t : FileTree) (from to path rest : List (List ℕ)) → behind to path ≡ None → behind from path ≡ Some rest → map.get (changed t (Renamed from to)) path ≡ None
 renamed_away t from to path rest there here = get-changed t (Renamed from to) path ∙ rw (there, here) refl
 
-renamed_here : (t : FileTree) (from to below : List (List ℕ)) → map.get (changed t (Renamed from to)) (to ++ below) ≡ map.get t (from ++ below)
+pub renamed_here : (t : FileTree) (from to below : List (List ℕ)) → map.get (changed t (Renamed from to)) (to ++ below) ≡ map.get t (from ++ below)
 renamed_here t from to below = get-changed t (Renamed from to) (to ++ below) ∙ rw (behind_head to below) refl
 
 module _ (project : List (List ℕ)) (number : ℕ) (target : Target) (is : IsTargetPath target.path) (t : FileTree) where

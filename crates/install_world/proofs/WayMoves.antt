@@ -69,7 +69,7 @@ there_by_kind t at kind under is some = by (map.get t at) refl
 -- ---- the moves on the way
 
 module _ (way : Way) (number : ℕ) (target : Target) (places : PartPlaces) (are : ArePlaces way.project number target places) (part : IsPart way.journal.targets number target) where
-  after_part : (t now : FileTree) → IsOnWay way t → ChangesPart way.project number target t now
+  pub after_part : (t now : FileTree) → IsOnWay way t → ChangesPart way.project number target t now
       → IsInFlight way.project way.surroundings way.old way.new now → IsOnWay way now
   after_part t now on change flight =
       let is = part_target way.project t way.journal on.stands number target part in

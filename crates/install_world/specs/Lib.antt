@@ -5,3 +5,5 @@ pub mod Reading
 pub mod InFlight
 pub mod Moving
 pub mod Removals
+pub mod PartFaults
+pub mod Recovery

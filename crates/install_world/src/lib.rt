@@ -2,14 +2,19 @@
 #![tactic(auto)]
 
 mod apart;
+mod ending;
 mod fault;
 mod flight_laws;
 mod journal;
 mod laws;
 mod lines;
 mod moving;
+mod part_fault;
+mod parts;
 mod reader;
 mod reading;
+mod recovery;
+mod recovery_fault;
 mod removal;
 mod removal_fault;
 mod target;
@@ -17,6 +22,7 @@ mod version;
 mod words;
 mod writing;
 
+pub use ending::remove_journal;
 pub use fault::JournalFault;
 pub use flight_laws::{
     lost_parts_are_not_in_flight, moves_keep_in_flight, staged_jobs_are_in_flight,
@@ -25,7 +31,11 @@ pub use flight_laws::{
 pub use journal::Journal;
 pub use laws::{bad_journals_have_one_place, journal_texts_are_read};
 pub use moving::{PartPlaces, move_part};
+pub use part_fault::PartFault;
+pub use parts::places_of;
 pub use reading::read_journal;
+pub use recovery::finish_install;
+pub use recovery_fault::{RecoverFault, Recovered};
 pub use removal::remove_folder;
 pub use removal_fault::RemoveFault;
 pub use target::{Target, is_target_path};

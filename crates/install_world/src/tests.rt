@@ -1,4 +1,5 @@
 mod moves;
+mod recovery;
 
 use super::*;
 use path_name::{Items, Path};

@@ -1,0 +1,14 @@
+use Rattle.std.proofs.lemmas.Result.{err_from_is_err_and}
+use Rattle.install_world.proofs.ending.end_journal.Goals as goal
+
+pub returns-in_err-remove_journal-clause-writes_none : goal.returns-in_err-remove_journal-clause-writes_none
+returns-in_err-remove_journal-clause-writes_none g c =
+    let p = err_from_is_err_and c.from_residual.result c.from_residual.ensures.1 in rw (p.1, p.2) c.in_err-remove_journal.ensures.writes_none
+
+pub returns-in_err-copy-in-Misplaced-clause-writes_none : goal.returns-in_err-copy-in-Misplaced-clause-writes_none
+returns-in_err-copy-in-Misplaced-clause-writes_none g c =
+    let p = err_from_is_err_and c.from_residual-in_err-copy-in-Misplaced.result c.from_residual-in_err-copy-in-Misplaced.ensures.1 in
+    rw (p.1, p.2) c.in_ok-remove_journal.ensures.writes_none
+
+pub returns-in-Done-clause-settled : goal.returns-in-Done-clause-settled
+returns-in-Done-clause-settled g c = λ t told way is done on. c.in_ok-remove_journal.ensures.settled c.in-Done.is t told way is done on

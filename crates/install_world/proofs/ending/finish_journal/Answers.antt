@@ -1,0 +1,97 @@
+use Rattle.std.proofs.lemmas.Result.{err_from_is_err_and, on_ok_weaker}
+use Rattle.tree_dev.proofs.Stretches.{through_ends, through_from, through_then_through}
+use Rattle.install_world.specs.Moving.{IsOnWay}
+use Rattle.install_world.proofs.JournalEnds.{all_done_of, at_way, nothing_more, old_is, old_there, targets_of, way_then}
+use Rattle.install_world.proofs.PartDone.{told_still}
+use Rattle.install_world.proofs.PartFinish.{parents_then, still_through, way_reads}
+use Rattle.install_world.proofs.RemovalRules.{writes_none_on, writes_none_start}
+use Rattle.install_world.proofs.Segments.{install_segment, old_segment}
+use Rattle.install_world.proofs.ending.finish_journal.Goals as goal
+
+pub child-requires : goal.child-requires
+child-requires g c = install_segment
+
+pub child-requires-2 : goal.child-requires-2
+child-requires-2 g c = old_segment
+
+pub returns-in_err-work-clause-writes_none : goal.returns-in_err-work-clause-writes_none
+returns-in_err-work-clause-writes_none g c = let p = err_from_is_err_and c.from_residual.result c.from_residual.ensures.1 in rw (p.1, p.2) (writes_none_start _)
+
+pub returns-in_err-work-clause-through : goal.returns-in_err-work-clause-through
+returns-in_err-work-clause-through g c = λ t told whole way same by is each. way_then way _ _ _ (through_from (IsOnWay way) _ each) (λ now. nothing_more way _ now)
+
+pub returns-in_err-old-clause-writes_none : goal.returns-in_err-old-clause-writes_none
+returns-in_err-old-clause-writes_none g c =
+    let p = err_from_is_err_and c.from_residual-in_err-old.result c.from_residual-in_err-old.ensures.1 in rw (p.1, p.2) (writes_none_start _)
+
+pub returns-in_err-old-clause-through : goal.returns-in_err-old-clause-through
+returns-in_err-old-clause-through g c = λ t told whole way same by is each. way_then way _ _ _ (through_from (IsOnWay way) _ each) (λ now. nothing_more way _ now)
+
+pub returns-in_err-make_folder-clause-writes_none : goal.returns-in_err-make_folder-clause-writes_none
+returns-in_err-make_folder-clause-writes_none g c =
+    let p = err_from_is_err_and c.from_residual-in_err-make_folder.result c.from_residual-in_err-make_folder.ensures.1 in
+    rw (p.1, p.2) c.in_err-make_folder.ensures.writes_none
+
+pub returns-in_err-make_folder-clause-through : goal.returns-in_err-make_folder-clause-through
+returns-in_err-make_folder-clause-through g c = λ t told whole way same by is each.
+    let on = way_reads way (g.T.Tree.meaning c.args.tree.now) t (g.met.T.Tree.tells_its_disk c.args.tree.now t told) each in
+    let there = old_there way t on c.args.project.now c.in_ok-old.old same (old_is c.args.project.now c.in_ok-work.work c.in_ok-old.old c.in_ok-work.ensures c.in_ok-old.ensures) in
+    way_then way _ _ _ (still_through way _ _ (c.make_folder.ensures.still t told there) c.make_folder.ensures.writes_none.faults each) (λ now. nothing_more way _ now)
+
+pub returns-in_err-finish_parts-clause-writes_none : goal.returns-in_err-finish_parts-clause-writes_none
+returns-in_err-finish_parts-clause-writes_none g c =
+    let p = err_from_is_err_and c.from_residual-in_err-finish_parts.result c.from_residual-in_err-finish_parts.ensures.1 in
+    rw (p.1, p.2) (writes_none_on _ _ _ _ c.in_err-finish_parts.ensures.writes_none c.in_ok-make_folder.ensures.writes_none)
+
+pub returns-in_err-finish_parts-clause-through : goal.returns-in_err-finish_parts-clause-through
+returns-in_err-finish_parts-clause-through g c = λ t told whole way same by is each.
+    let on = way_reads way (g.T.Tree.meaning c.args.tree.now) t (g.met.T.Tree.tells_its_disk c.args.tree.now t told) each in
+    let there = old_there way t on c.args.project.now c.in_ok-old.old same (old_is c.args.project.now c.in_ok-work.work c.in_ok-old.old c.in_ok-work.ensures c.in_ok-old.ensures) in
+    way_then way _ _ _
+    (parents_then way _ _ _ t told c.make_folder.ensures.writes_none.tells c.make_folder.ensures.writes_none.faults (c.make_folder.ensures.still t told there)
+    (λ u now. c.finish_parts.ensures.through u now (c.make_folder.ensures.writes_none.whole whole) way same (targets_of way c.args.journal.now by c.as_slice.result.now c.as_slice.ensures))
+    each)
+    (λ now. nothing_more way _ now)
+
+pub returns-clause-writes_none : goal.returns-clause-writes_none
+returns-clause-writes_none g c =
+    writes_none_on _ _ _ _ c.end_journal.ensures.writes_none
+    (writes_none_on _ _ _ _ c.in_ok-finish_parts.ensures.writes_none c.in_ok-make_folder.ensures.writes_none)
+
+pub returns-clause-through : goal.returns-clause-through
+returns-clause-through g c = λ t told whole way same by is each.
+    let first = g.T.Tree.meaning c.args.tree.now in
+    let second = g.T.Tree.meaning c.make_folder.new.tree in
+    let third = g.T.Tree.meaning c.finish_parts.new.tree in
+    let on = way_reads way first t (g.met.T.Tree.tells_its_disk c.args.tree.now t told) each in
+    let there = old_there way t on c.args.project.now c.in_ok-old.old same (old_is c.args.project.now c.in_ok-work.work c.in_ok-old.old c.in_ok-work.ensures c.in_ok-old.ensures) in
+    let targets = targets_of way c.args.journal.now by c.as_slice.result.now c.as_slice.ensures in
+    let whole_second = c.make_folder.ensures.writes_none.whole whole in
+    let now = told_still first second t c.make_folder.ensures.writes_none.tells told in
+    let then = told_still second third now.0 c.finish_parts.ensures.writes_none.tells now.1 in
+    let start = still_through way first second (c.make_folder.ensures.still t told there) c.make_folder.ensures.writes_none.faults each in
+    let here = through_ends (IsOnWay way) first second start in
+    way_then way first third _ (through_then_through (IsOnWay way) first second third (c.finish_parts.ensures.through now.0 now.1 whole_second way same targets) start)
+    (λ each_third. c.end_journal.ensures.through then.0 then.1 (c.finish_parts.ensures.writes_none.whole whole_second) way (at_way way c.args.project.now c.args.at.now same is)
+    (all_done_of way c.args.project.now c.as_slice.result.now then.0 third same targets (g.met.T.Tree.tells_its_disk c.finish_parts.new.tree then.0 then.1)
+    (c.in_ok-finish_parts.ensures.done now.0 now.1 whole_second way same targets here)) each_third)
+
+pub returns-clause-settled : goal.returns-clause-settled
+returns-clause-settled g c = on_ok_weaker c.end_journal.result
+    (λ settled t told whole way same by is each.
+    let first = g.T.Tree.meaning c.args.tree.now in
+    let second = g.T.Tree.meaning c.make_folder.new.tree in
+    let third = g.T.Tree.meaning c.finish_parts.new.tree in
+    let on = way_reads way first t (g.met.T.Tree.tells_its_disk c.args.tree.now t told) each in
+    let there = old_there way t on c.args.project.now c.in_ok-old.old same (old_is c.args.project.now c.in_ok-work.work c.in_ok-old.old c.in_ok-work.ensures c.in_ok-old.ensures) in
+    let targets = targets_of way c.args.journal.now by c.as_slice.result.now c.as_slice.ensures in
+    let whole_second = c.make_folder.ensures.writes_none.whole whole in
+    let now = told_still first second t c.make_folder.ensures.writes_none.tells told in
+    let then = told_still second third now.0 c.finish_parts.ensures.writes_none.tells now.1 in
+    let start = still_through way first second (c.make_folder.ensures.still t told there) c.make_folder.ensures.writes_none.faults each in
+    let here = through_ends (IsOnWay way) first second start in
+    let disk = g.met.T.Tree.tells_its_disk c.finish_parts.new.tree then.0 then.1 in
+    settled then.0 then.1 way (at_way way c.args.project.now c.args.at.now same is)
+    (all_done_of way c.args.project.now c.as_slice.result.now then.0 third same targets disk (c.in_ok-finish_parts.ensures.done now.0 now.1 whole_second way same targets here))
+    (way_reads way third then.0 disk (through_ends (IsOnWay way) second third (c.finish_parts.ensures.through now.0 now.1 whole_second way same targets here))))
+    c.end_journal.ensures.settled

@@ -1,0 +1,77 @@
+use Rattle.std.proofs.Common.{refl, false}
+use Rattle.std.proofs.lemmas.Result.{err_from_is_err_and}
+use Rattle.tree_dev.proofs.Whole.{through_then_barrier}
+use Rattle.tree_dev.specs.declared.change.Change.TheVariants.{FileRemoved}
+use Rattle.install_world.specs.InFlight.{IsInFlight}
+use Rattle.install_world.proofs.JournalEnds.{ends_in_flight, ends_new, still_in_flight}
+use Rattle.install_world.proofs.PartDone.{told_still}
+use Rattle.install_world.proofs.RemovalRules.{writes_none_barrier, writes_none_change, writes_none_start}
+use Rattle.install_world.proofs.ending.remove_journal.Goals as goal
+
+pub returns-in_err-barrier-clause-writes_none : goal.returns-in_err-barrier-clause-writes_none
+returns-in_err-barrier-clause-writes_none g c =
+    let p = err_from_is_err_and c.from_residual.result c.from_residual.ensures.1 in
+    rw p.1 (writes_none_barrier _ _ _ _ c.barrier.ensures.moments (λ failed. c.in_err-barrier.ensures.cause) (writes_none_start _))
+
+pub returns-in_err-barrier-clause-through : goal.returns-in_err-barrier-clause-through
+returns-in_err-barrier-clause-through g c = λ t told whole way is done each.
+    still_in_flight way _ _ t (g.met.T.Tree.tells_its_disk c.args.tree.now t told) c.barrier.ensures.moments each
+
+pub returns-in_err-remove_file-clause-writes_none : goal.returns-in_err-remove_file-clause-writes_none
+returns-in_err-remove_file-clause-writes_none g c =
+    let p = err_from_is_err_and c.from_residual-in_err-remove_file.result c.from_residual-in_err-remove_file.ensures.1 in
+    rw p.1 (writes_none_change _ _ _ _ _ c.remove_file.ensures.moments refl (λ failed. c.in_err-remove_file.ensures.cause)
+    (writes_none_barrier _ _ _ _ c.barrier.ensures.moments (λ failed. absurd cc) (writes_none_start _)))
+
+pub returns-in_err-remove_file-clause-through : goal.returns-in_err-remove_file-clause-through
+returns-in_err-remove_file-clause-through g c = λ t told whole way is done each.
+    ends_in_flight way _ _ t (g.met.T.Tree.tells_its_disk c.args.tree.now t told) c.barrier.ensures.moments _ c.args.journal.now c.remove_file.ensures.moments
+    (g.met.T.Tree.tells_trees c.args.tree.now t told) whole is done each
+
+pub returns-in_err-barrier-in-Done-clause-writes_none : goal.returns-in_err-barrier-in-Done-clause-writes_none
+returns-in_err-barrier-in-Done-clause-writes_none g c =
+    let p = err_from_is_err_and c.from_residual-in_err-barrier-in-Done.result c.from_residual-in_err-barrier-in-Done.ensures.1 in
+    rw p.1 (writes_none_barrier _ _ _ _ c.barrier-in-Done.ensures.moments (λ failed. c.in_err-barrier-in-Done.ensures.cause)
+    (writes_none_change _ _ _ _ _ c.remove_file.ensures.moments refl (λ failed. absurd cc)
+    (writes_none_barrier _ _ _ _ c.barrier.ensures.moments (λ failed. absurd cc) (writes_none_start _))))
+
+pub returns-in_err-barrier-in-Done-clause-through : goal.returns-in_err-barrier-in-Done-clause-through
+returns-in_err-barrier-in-Done-clause-through g c = λ t told whole way is done each.
+    through_then_barrier (IsInFlight way.project way.surroundings way.old way.new) _ _ _ c.barrier-in-Done.ensures.moments
+    (ends_in_flight way _ _ t (g.met.T.Tree.tells_its_disk c.args.tree.now t told) c.barrier.ensures.moments _ c.args.journal.now c.remove_file.ensures.moments
+    (g.met.T.Tree.tells_trees c.args.tree.now t told) whole is done each)
+
+pub returns-in_ok-barrier-in-Done-clause-writes_none : goal.returns-in_ok-barrier-in-Done-clause-writes_none
+returns-in_ok-barrier-in-Done-clause-writes_none g c =
+    writes_none_barrier _ _ _ _ c.barrier-in-Done.ensures.moments (λ failed. absurd cc)
+    (writes_none_change _ _ _ _ _ c.remove_file.ensures.moments refl (λ failed. absurd cc)
+    (writes_none_barrier _ _ _ _ c.barrier.ensures.moments (λ failed. absurd cc) (writes_none_start _)))
+
+pub returns-in_ok-barrier-in-Done-clause-through : goal.returns-in_ok-barrier-in-Done-clause-through
+returns-in_ok-barrier-in-Done-clause-through g c = λ t told whole way is done each.
+    through_then_barrier (IsInFlight way.project way.surroundings way.old way.new) _ _ _ c.barrier-in-Done.ensures.moments
+    (ends_in_flight way _ _ t (g.met.T.Tree.tells_its_disk c.args.tree.now t told) c.barrier.ensures.moments _ c.args.journal.now c.remove_file.ensures.moments
+    (g.met.T.Tree.tells_trees c.args.tree.now t told) whole is done each)
+
+pub returns-in_ok-barrier-in-Done-clause-settled : goal.returns-in_ok-barrier-in-Done-clause-settled
+returns-in_ok-barrier-in-Done-clause-settled g c = λ ended t told way is done on.
+    let first = g.T.Tree.meaning c.args.tree.now in
+    let second = g.T.Tree.meaning c.barrier.new.self in
+    let third = g.T.Tree.meaning c.remove_file.new.self in
+    let settled = writes_none_barrier first first second false c.barrier.ensures.moments (λ failed. absurd cc) (writes_none_start first) in
+    let removed = writes_none_change first second third (FileRemoved c.args.journal.now) false c.remove_file.ensures.moments refl (λ failed. absurd cc) settled in
+    let now = told_still first second t settled.tells told in
+    let then = told_still first third t removed.tells told in
+    ends_new way first second t (g.met.T.Tree.tells_its_disk c.args.tree.now t told) c.barrier.ensures.moments third _ c.args.journal.now
+    (c.in_ok-remove_file.ensures.done c.in-Done.is now.0 now.1) (c.in_ok-barrier-in-Done.ensures.done then.0 then.1)
+    (g.met.T.Tree.tells_trees c.args.tree.now t told) is done on
+
+pub returns-in-Misplaced-clause-writes_none : goal.returns-in-Misplaced-clause-writes_none
+returns-in-Misplaced-clause-writes_none g c =
+    writes_none_change _ _ _ _ _ c.remove_file.ensures.moments refl (λ failed. absurd cc)
+    (writes_none_barrier _ _ _ _ c.barrier.ensures.moments (λ failed. absurd cc) (writes_none_start _))
+
+pub returns-in-Misplaced-clause-through : goal.returns-in-Misplaced-clause-through
+returns-in-Misplaced-clause-through g c = λ t told whole way is done each.
+    ends_in_flight way _ _ t (g.met.T.Tree.tells_its_disk c.args.tree.now t told) c.barrier.ensures.moments _ c.args.journal.now c.remove_file.ensures.moments
+    (g.met.T.Tree.tells_trees c.args.tree.now t told) whole is done each

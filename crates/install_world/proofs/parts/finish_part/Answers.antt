@@ -1,0 +1,73 @@
+use Rattle.std.proofs.Common.{refl, sym, subst}
+use Rattle.std.proofs.lemmas.Result.{err_from_is_err_and}
+use Rattle.tree_dev.proofs.Stretches.{through_from}
+use Rattle.install_world.specs.Moving.{ArePlaces, IsOnWay}
+use Rattle.install_world.proofs.PartDone.{told_still}
+use Rattle.install_world.proofs.PartFinish.{done_then_moved, done_then_removed, steps_then, way_apart, way_number, way_reads, way_target}
+use Rattle.install_world.proofs.RemovalRules.{writes_none_on, writes_none_start}
+use Rattle.install_world.proofs.parts.finish_part.Goals as goal
+
+pub returns-in_err-places-clause-writes_none : goal.returns-in_err-places-clause-writes_none
+returns-in_err-places-clause-writes_none g c = let p = err_from_is_err_and c.from_residual.result c.from_residual.ensures.1 in rw (p.1, p.2) (writes_none_start _)
+
+pub returns-in_err-places-clause-through : goal.returns-in_err-places-clause-through
+returns-in_err-places-clause-through g c = λ t told whole way same part each. through_from (IsOnWay way) _ each
+
+pub returns-in_err-prepare_part-clause-writes_none : goal.returns-in_err-prepare_part-clause-writes_none
+returns-in_err-prepare_part-clause-writes_none g c =
+    let p = err_from_is_err_and c.from_residual-in_err-prepare_part.result c.from_residual-in_err-prepare_part.ensures.1 in
+    rw (p.1, p.2) c.in_err-prepare_part.ensures.writes_none
+
+pub returns-in_err-prepare_part-clause-through : goal.returns-in_err-prepare_part-clause-through
+returns-in_err-prepare_part-clause-through g c = λ t told whole way same part each.
+    let on = way_reads way (g.T.Tree.meaning c.args.tree.now) t (g.met.T.Tree.tells_its_disk c.args.tree.now t told) each in
+    c.prepare_part.ensures.through t told way c.args.number same (c.in_ok-places.ensures (way_target way t on c.args.number c.args.target.now part)) part each
+
+pub returns-in_err-move_part-clause-through : goal.returns-in_err-move_part-clause-through
+returns-in_err-move_part-clause-through g c = λ t told whole way same part each.
+    let on = way_reads way (g.T.Tree.meaning c.args.tree.now) t (g.met.T.Tree.tells_its_disk c.args.tree.now t told) each in
+    let are = c.in_ok-places.ensures (way_target way t on c.args.number c.args.target.now part) in
+    steps_then way _ _ _ t told c.prepare_part.ensures.writes_none.tells (c.prepare_part.ensures.through t told way c.args.number same are part each)
+    (λ u now. c.move_part.ensures.through u now (c.prepare_part.ensures.writes_none.whole whole) way c.args.number c.args.target.now
+    (subst (λ p. ArePlaces p c.args.number c.args.target.now c.in_ok-places.places) (sym same) are) part refl)
+
+pub returns-in-Done-clause-through : goal.returns-in-Done-clause-through
+returns-in-Done-clause-through g c = λ t told whole way same part each.
+    let on = way_reads way (g.T.Tree.meaning c.args.tree.now) t (g.met.T.Tree.tells_its_disk c.args.tree.now t told) each in
+    let are = c.in_ok-places.ensures (way_target way t on c.args.number c.args.target.now part) in
+    steps_then way _ _ _ t told c.prepare_part.ensures.writes_none.tells (c.prepare_part.ensures.through t told way c.args.number same are part each)
+    (λ u now. c.move_part.ensures.through u now (c.prepare_part.ensures.writes_none.whole whole) way c.args.number c.args.target.now
+    (subst (λ p. ArePlaces p c.args.number c.args.target.now c.in_ok-places.places) (sym same) are) part refl)
+
+pub returns-in-Misplaced-clause-through : goal.returns-in-Misplaced-clause-through
+returns-in-Misplaced-clause-through g c = λ t told whole way same part each.
+    let on = way_reads way (g.T.Tree.meaning c.args.tree.now) t (g.met.T.Tree.tells_its_disk c.args.tree.now t told) each in
+    let are = c.in_ok-places.ensures (way_target way t on c.args.number c.args.target.now part) in
+    steps_then way _ _ _ t told c.prepare_part.ensures.writes_none.tells (c.prepare_part.ensures.through t told way c.args.number same are part each)
+    (λ u now. c.move_part.ensures.through u now (c.prepare_part.ensures.writes_none.whole whole) way c.args.number c.args.target.now
+    (subst (λ p. ArePlaces p c.args.number c.args.target.now c.in_ok-places.places) (sym same) are) part refl)
+
+pub returns-in_err-move_part-clause-writes_none : goal.returns-in_err-move_part-clause-writes_none
+returns-in_err-move_part-clause-writes_none g c =
+    let p = err_from_is_err_and c.from_residual-in_err-move_part.result c.from_residual-in_err-move_part.ensures.1 in
+    rw (p.1, p.2) (writes_none_on _ _ _ _ c.in_err-move_part.ensures.writes_none c.in_ok-prepare_part.ensures.writes_none)
+
+pub returns-in-Done-clause-writes_none : goal.returns-in-Done-clause-writes_none
+returns-in-Done-clause-writes_none g c = writes_none_on _ _ _ _ c.in_ok-move_part.ensures.writes_none c.in_ok-prepare_part.ensures.writes_none
+
+pub returns-in-Misplaced-clause-writes_none : goal.returns-in-Misplaced-clause-writes_none
+returns-in-Misplaced-clause-writes_none g c = writes_none_on _ _ _ _ c.in_ok-move_part.ensures.writes_none c.in_ok-prepare_part.ensures.writes_none
+
+pub returns-in-Done-clause-done : goal.returns-in-Done-clause-done
+returns-in-Done-clause-done g c = λ t told is.
+    let now = told_still (g.T.Tree.meaning c.args.tree.now) (g.T.Tree.meaning c.prepare_part.new.tree) t c.prepare_part.ensures.writes_none.tells told in
+    c.in_ok-move_part.ensures.done c.in-Done.is now.0 now.1 c.args.project.now c.args.number c.args.target.now (c.in_ok-places.ensures is)
+
+pub returns-in-Done-clause-others : goal.returns-in-Done-clause-others
+returns-in-Done-clause-others g c = λ t told way same part on j other differs there done.
+    let are = c.in_ok-places.ensures (way_target way t on c.args.number c.args.target.now part) in
+    let removed = c.prepare_part.ensures.removes t told way c.args.number same part on in
+    done_then_moved c.args.project.now c.args.number j c.args.target.now other c.in_ok-places.places are (way_target way t on j other there)
+    (way_number way t on c.args.number c.args.target.now part) (way_number way t on j other there) differs
+    (way_apart way t on c.args.number j c.args.target.now other differs part there) _ _ c.move_part.ensures.moves other.gone
+    (done_then_removed c.args.project.now _ other.gone j other t _ removed done)

@@ -1,0 +1,22 @@
+use Rattle.std.proofs.Common.{◌≡◌, ℕ, ◌<◌, false}
+use Rattle.tree_dev.specs.Device.{OfTold}
+use Rattle.tree_dev.specs.Disk.{reading}
+use Rattle.tree_dev.specs.Steady.{EachImage, IsWhole, Through}
+use Rattle.install_world.specs.InFlight.{IsPart, IsPartDone}
+use Rattle.install_world.specs.Moving.{IsOnWay, Way}
+use Rattle.install_world.specs.Removals.{WritesNone}
+use Rattle.install_world.specs.declared.target.Target.{Target}
+use Rattle.install_world.proofs.parts.finish_parts.Given as goal
+
+abbrev pub invariant-targets : goal.invariant-targets
+invariant-targets g l =
+    let before = g.T.Tree.meaning l.fn.tree in
+    let now = g.T.Tree.meaning l.tree in
+    record {
+      writes_none : WritesNone before now false;
+      through : OfTold before (λ t. IsWhole before.disks.now → (way : Way) → way.project ≡ l.fn.project → way.journal.targets ≡ l.fn.targets
+          → EachImage before (IsOnWay way) → Through before now (IsOnWay way));
+      done : OfTold before (λ t. IsWhole before.disks.now → (way : Way) → way.project ≡ l.fn.project → way.journal.targets ≡ l.fn.targets
+          → EachImage before (IsOnWay way) → (j : ℕ) (other : Target) → j < l.number → IsPart l.fn.targets j other
+          → IsPartDone other.gone l.fn.project j other (reading now.disks.now));
+    }

@@ -1,0 +1,26 @@
+use Rattle.std.proofs.lemmas.Result.{err_from_is_err_and}
+use Rattle.install_world.proofs.PartFinish.{shows_folder}
+use Rattle.install_world.proofs.RemovalRules.{writes_none_on, writes_none_read, writes_none_start}
+use Rattle.install_world.proofs.parts.make_up_to.Goals as goal
+
+pub returns-in_err-stat-clause-writes_none : goal.returns-in_err-stat-clause-writes_none
+returns-in_err-stat-clause-writes_none g c =
+    let p = err_from_is_err_and c.from_residual.result c.from_residual.ensures.1 in
+    rw (p.1, p.2) (writes_none_read _ _ _ _ c.in_err-stat.ensures.only_read (writes_none_start _))
+
+pub returns-in_err-stat-clause-still : goal.returns-in_err-stat-clause-still
+returns-in_err-stat-clause-still g c = λ t told there. c.stat.ensures.only_read.disks
+
+pub returns-in-Folder-clause-writes_none : goal.returns-in-Folder-clause-writes_none
+returns-in-Folder-clause-writes_none g c = writes_none_read _ _ _ _ c.in_ok-stat.ensures.only_read (writes_none_start _)
+
+pub returns-in-Folder-clause-still : goal.returns-in-Folder-clause-still
+returns-in-Folder-clause-still g c = λ t told there. c.stat.ensures.only_read.disks
+
+pub returns-in_default-clause-writes_none : goal.returns-in_default-clause-writes_none
+returns-in_default-clause-writes_none g c =
+    writes_none_on _ _ _ _ c.make_above.ensures (writes_none_read _ _ _ _ c.in_ok-stat.ensures.only_read (writes_none_start _))
+
+pub returns-in_default-clause-still : goal.returns-in_default-clause-still
+returns-in_default-clause-still g c = λ t told there.
+    absurd (c.in_default.not-Folder (shows_folder t c.args.parent.now c.in_ok-stat.field-0 (c.in_ok-stat.ensures.kind t told) there))

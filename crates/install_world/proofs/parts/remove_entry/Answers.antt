@@ -1,0 +1,8 @@
+use Rattle.std.proofs.lemmas.Result.{err_from_is_err_and}
+use Rattle.install_world.proofs.PartFinish.{writes_none_removed}
+use Rattle.install_world.proofs.parts.remove_entry.Goals as goal
+
+pub returns-in_err-remove_folder-in-Folder-clause-writes_none : goal.returns-in_err-remove_folder-in-Folder-clause-writes_none
+returns-in_err-remove_folder-in-Folder-clause-writes_none g c =
+    let p = err_from_is_err_and c.from_residual.result c.from_residual.ensures.1 in
+    rw (p.1, p.2) (writes_none_removed (Unit {0}) (Unit {0}) _ _ c.in_err-remove_folder-in-Folder.field-0.0 c.in_err-remove_folder-in-Folder.ensures.writes_none)

@@ -1,0 +1,127 @@
+use Rattle.std.proofs.Common.{◌≡◌, ◌<◌, ◌^◌, length, ap, ◌∙◌, sym, subst, None, Some}
+use Rattle.std.specs.FinMap as map
+use Rattle.tree_dev.specs.declared.entry.Entry.TheVariants.{File}
+use Rattle.std.proofs.lemmas.Result.{IfOk-weaker, err_from_is_err_and, on_ok_weaker}
+use Rattle.tree_dev.specs.Device.{only_read_on}
+use Rattle.tree_dev.proofs.Stretches.{through_from, through_on}
+use Rattle.tree_dev.proofs.Whole.{through_then_read}
+use Rattle.install_world.specs.InFlight.{IsInFlight, NoJournal}
+use Rattle.install_world.specs.Recovery.{ended_by}
+use Rattle.install_world.specs.Removals.{OnlyRemoved}
+use Rattle.install_world.proofs.JournalEnds.{no_journal_left, parts_left}
+use Rattle.install_world.proofs.RecoveryRules.{at_is, images_read, own_files}
+use Rattle.install_world.proofs.RemovalRules.{writes_none_on, writes_none_read, writes_none_start}
+use Rattle.install_world.proofs.Segments.{journal_segment}
+use Rattle.install_world.proofs.recovery.finish_claimed.Goals as goal
+
+pub child-requires : goal.child-requires
+child-requires g c = journal_segment
+
+pub returns-in_err-at-clause-writes_none : goal.returns-in_err-at-clause-writes_none
+returns-in_err-at-clause-writes_none g c = let p = err_from_is_err_and c.from_residual.result c.from_residual.ensures.1 in rw (p.1, p.2) (writes_none_start _)
+
+pub returns-in_err-at-clause-through : goal.returns-in_err-at-clause-through
+returns-in_err-at-clause-through g c = λ t told surroundings old new is_work each. through_from (IsInFlight c.args.project.now surroundings old new) _ each
+
+pub returns-in_err-read_text-clause-writes_none : goal.returns-in_err-read_text-clause-writes_none
+returns-in_err-read_text-clause-writes_none g c =
+    let p = err_from_is_err_and c.from_residual-in_err-read_text.result c.from_residual-in_err-read_text.ensures.1 in
+    rw (p.1, p.2) (writes_none_read _ _ _ _ c.in_err-read_text.ensures.only_read (writes_none_start _))
+
+pub returns-in_err-read_text-clause-through : goal.returns-in_err-read_text-clause-through
+returns-in_err-read_text-clause-through g c = λ t told surroundings old new is_work each.
+    through_then_read (IsInFlight c.args.project.now surroundings old new) _ _ _ _ c.read_text.ensures.only_read (through_from (IsInFlight c.args.project.now surroundings old new) _ each)
+
+pub returns-in_err-read_text-clause-bad : goal.returns-in_err-read_text-clause-bad
+returns-in_err-read_text-clause-bad g c = λ place is.
+    let p = err_from_is_err_and c.from_residual-in_err-read_text.result c.from_residual-in_err-read_text.ensures.1 in
+    let given = p.1 in
+    let from = p.2 in
+    absurd (c.in_err-read_text.ensures.not_bad place cc)
+
+pub returns-in-None-clause-writes_none : goal.returns-in-None-clause-writes_none
+returns-in-None-clause-writes_none g c =
+    writes_none_on _ _ _ _ c.take_install_away.ensures.writes_none (writes_none_read _ _ _ _ c.in_ok-read_text.ensures.only_read (writes_none_start _))
+
+pub returns-in-None-clause-through : goal.returns-in-None-clause-through
+returns-in-None-clause-through g c = λ t told surroundings old new is_work each.
+    let is_at = at_is c.args.project.now c.args.work.now c.in_ok-at.at is_work c.in_ok-at.ensures in
+    let none : map.get t c.in_ok-at.at ≡ None = rw c.in-None.is at (c.in_ok-read_text.ensures.text t told) in
+    let nothing : NoJournal c.args.project.now t = record { absent = subst (λ path. map.get t path ≡ None) is_at none } in
+    through_on (IsInFlight c.args.project.now surroundings old new) _ _ _
+    (through_then_read (IsInFlight c.args.project.now surroundings old new) _ _ _ _ c.read_text.ensures.only_read (through_from (IsInFlight c.args.project.now surroundings old new) _ each))
+    (c.take_install_away.ensures.through t (c.read_text.ensures.only_read.told ∙ told) c.args.project.now surroundings old new is_work nothing
+    (images_read (IsInFlight c.args.project.now surroundings old new) _ _ _ c.read_text.ensures.only_read each))
+
+pub returns-in-None-clause-found : goal.returns-in-None-clause-found
+returns-in-None-clause-found g c = IfOk-weaker c.take_install_away.result _ _
+    (λ found is t told is_work.
+    let is_at = at_is c.args.project.now c.args.work.now c.in_ok-at.at is_work c.in_ok-at.ensures in
+    let none : map.get t c.in_ok-at.at ≡ None = rw c.in-None.is at (c.in_ok-read_text.ensures.text t told) in
+    is ∙ sym (ap ended_by (subst (λ path. map.get t path ≡ None) is_at none)))
+    c.take_install_away.ensures.found
+
+pub returns-in-None-clause-finished : goal.returns-in-None-clause-finished
+returns-in-None-clause-finished g c = on_ok_weaker c.take_install_away.result
+    (λ only t told surroundings old new files is_work each finished.
+    let is_at = at_is c.args.project.now c.args.work.now c.in_ok-at.at is_work c.in_ok-at.ensures in
+    let none : map.get t c.in_ok-at.at ≡ None = rw c.in-None.is at (c.in_ok-read_text.ensures.text t told) in
+    let nothing : NoJournal c.args.project.now t = record { absent = subst (λ path. map.get t path ≡ None) is_at none } in
+    λ left image.
+    let removed = subst (λ at. OnlyRemoved at t left) is_work (only t (c.read_text.ensures.only_read.told ∙ told) left image) in
+    record {
+      no_journal = no_journal_left c.args.project.now t left removed nothing;
+      has_files = parts_left c.args.project.now files t left removed (own_files c.args.project.now t files nothing finished);
+    })
+    c.take_install_away.ensures.left
+
+pub returns-in-None-clause-bad : goal.returns-in-None-clause-bad
+returns-in-None-clause-bad g c = λ place is. absurd (c.take_install_away.ensures.not_bad place is)
+
+pub returns-clause-writes_none : goal.returns-clause-writes_none
+returns-clause-writes_none g c =
+    writes_none_on _ _ _ _ c.finish_text.ensures.writes_none (writes_none_read _ _ _ _ c.in_ok-read_text.ensures.only_read (writes_none_start _))
+
+pub returns-clause-through : goal.returns-clause-through
+returns-clause-through g c = λ t told surroundings old new is_work each.
+    let is_at = at_is c.args.project.now c.args.work.now c.in_ok-at.at is_work c.in_ok-at.ensures in
+    let file : (map.get t c.in_ok-at.at ≡ Some (File c.in-Some.text)) × (length c.in-Some.text < 2 ^ 64) = rw c.in-Some.is at (c.in_ok-read_text.ensures.text t told) in
+    through_on (IsInFlight c.args.project.now surroundings old new) _ _ _
+    (through_then_read (IsInFlight c.args.project.now surroundings old new) _ _ _ _ c.read_text.ensures.only_read (through_from (IsInFlight c.args.project.now surroundings old new) _ each))
+    (c.finish_text.ensures.through t (c.read_text.ensures.only_read.told ∙ told) surroundings old new is_work is_at
+    (subst (λ bytes. map.get t c.in_ok-at.at ≡ Some (File bytes)) (sym c.as_slice.ensures) file.0)
+    (subst (λ bytes. length bytes < 2 ^ 64) (sym c.as_slice.ensures) file.1)
+    (images_read (IsInFlight c.args.project.now surroundings old new) _ _ _ c.read_text.ensures.only_read each))
+
+pub returns-clause-found : goal.returns-clause-found
+returns-clause-found g c = IfOk-weaker c.finish_text.result _ _
+    (λ found is t told is_work.
+    let is_at = at_is c.args.project.now c.args.work.now c.in_ok-at.at is_work c.in_ok-at.ensures in
+    let file : (map.get t c.in_ok-at.at ≡ Some (File c.in-Some.text)) × (length c.in-Some.text < 2 ^ 64) = rw c.in-Some.is at (c.in_ok-read_text.ensures.text t told) in
+    is ∙ sym (ap ended_by (subst (λ path. map.get t path ≡ Some (File c.in-Some.text)) is_at file.0)))
+    c.finish_text.ensures.found
+
+pub returns-clause-finished : goal.returns-clause-finished
+returns-clause-finished g c = on_ok_weaker c.finish_text.result
+    (λ done t told surroundings old new files is_work each finished.
+    let is_at = at_is c.args.project.now c.args.work.now c.in_ok-at.at is_work c.in_ok-at.ensures in
+    let file : (map.get t c.in_ok-at.at ≡ Some (File c.in-Some.text)) × (length c.in-Some.text < 2 ^ 64) = rw c.in-Some.is at (c.in_ok-read_text.ensures.text t told) in
+    done t (c.read_text.ensures.only_read.told ∙ told) surroundings old new files is_work is_at
+    (subst (λ bytes. map.get t c.in_ok-at.at ≡ Some (File bytes)) (sym c.as_slice.ensures) file.0)
+    (subst (λ bytes. length bytes < 2 ^ 64) (sym c.as_slice.ensures) file.1)
+    (images_read (IsInFlight c.args.project.now surroundings old new) _ _ _ c.read_text.ensures.only_read each) finished)
+    c.finish_text.ensures.finished
+
+pub returns-clause-bad : goal.returns-clause-bad
+returns-clause-bad g c = λ place is.
+    let found = c.finish_text.ensures.bad place is in (
+      only_read_on c.in_ok-read_text.ensures.only_read found.1,
+      λ t told is_work.
+          let is_at = at_is c.args.project.now c.args.work.now c.in_ok-at.at is_work c.in_ok-at.ensures in
+          let file : (map.get t c.in_ok-at.at ≡ Some (File c.in-Some.text)) × (length c.in-Some.text < 2 ^ 64) = rw c.in-Some.is at (c.in_ok-read_text.ensures.text t told) in
+          record {
+            text = c.as_slice.result.now;
+            there = subst (λ path. map.get t path ≡ Some (File c.as_slice.result.now)) is_at (subst (λ bytes. map.get t c.in_ok-at.at ≡ Some (File bytes)) (sym c.as_slice.ensures) file.0);
+            bad = found.0;
+          },
+    )

@@ -1,0 +1,116 @@
+use Rattle.std.proofs.Common.{◌≡◌, false, None, Some, is_some, ap, ◌∙◌, sym, subst}
+use Rattle.std.specs.FinMap as map
+use Rattle.tree_dev.specs.declared.entry.Entry.TheVariants.{Folder}
+use Rattle.std.proofs.lemmas.Result.{IfOk-weaker, err_from_is_err_and, on_ok_weaker}
+use Rattle.tree_dev.specs.Changes.{is_root}
+use Rattle.tree_dev.specs.Device.{only_read_on}
+use Rattle.tree_dev.specs.Disk.{reading}
+use Rattle.tree_dev.proofs.Images.{reading_is_image}
+use Rattle.tree_dev.proofs.Stretches.{through_from, through_on}
+use Rattle.tree_dev.proofs.Whole.{through_then_read}
+use Rattle.install_world.specs.InFlight.{HasFiles, IsInFlight}
+use Rattle.install_world.proofs.PartDone.{absent_is_none, reads_same}
+use Rattle.install_world.proofs.RecoveryRules.{ended_in, folder_is_some, images_read, no_work_no_journal, nothing_to_do, own_files, work_under}
+use Rattle.install_world.proofs.RemovalRules.{writes_none_on, writes_none_read, writes_none_start}
+use Rattle.install_world.proofs.Segments.{install_segment}
+use Rattle.install_world.proofs.recovery.finish_install.Goals as goal
+
+pub child-requires : goal.child-requires
+child-requires g c = install_segment
+
+pub returns-in_err-work-clause-writes_none : goal.returns-in_err-work-clause-writes_none
+returns-in_err-work-clause-writes_none g c = let p = err_from_is_err_and c.from_residual.result c.from_residual.ensures.1 in rw (p.1, p.2) (writes_none_start _)
+
+pub returns-in_err-work-clause-through : goal.returns-in_err-work-clause-through
+returns-in_err-work-clause-through g c = λ t told surroundings old new each. through_from (IsInFlight c.args.project.now surroundings old new) _ each
+
+pub returns-in_err-stat-clause-writes_none : goal.returns-in_err-stat-clause-writes_none
+returns-in_err-stat-clause-writes_none g c =
+    let p = err_from_is_err_and c.from_residual-in_err-stat.result c.from_residual-in_err-stat.ensures.1 in
+    rw (p.1, p.2) (writes_none_read _ _ _ _ c.in_err-stat.ensures.only_read (writes_none_start _))
+
+pub returns-in_err-stat-clause-through : goal.returns-in_err-stat-clause-through
+returns-in_err-stat-clause-through g c = λ t told surroundings old new each.
+    through_then_read (IsInFlight c.args.project.now surroundings old new) _ _ _ _ c.stat.ensures.only_read (through_from (IsInFlight c.args.project.now surroundings old new) _ each)
+
+pub returns-in-Absent-clause-writes_none : goal.returns-in-Absent-clause-writes_none
+returns-in-Absent-clause-writes_none g c = writes_none_read _ _ _ _ c.in_ok-stat.ensures.only_read (writes_none_start _)
+
+pub returns-in-Absent-clause-through : goal.returns-in-Absent-clause-through
+returns-in-Absent-clause-through g c = λ t told surroundings old new each.
+    through_then_read (IsInFlight c.args.project.now surroundings old new) _ _ _ _ c.stat.ensures.only_read (through_from (IsInFlight c.args.project.now surroundings old new) _ each)
+
+pub returns-in-Absent-clause-found : goal.returns-in-Absent-clause-found
+returns-in-Absent-clause-found g c = λ t told.
+    let none = subst (λ at. map.get t at ≡ None) c.in_ok-work.ensures (absent_is_none t c.in_ok-work.work c.in_ok-stat.field-0 (c.in_ok-stat.ensures.kind t told) c.in-Absent.is) in
+    nothing_to_do c.args.project.now t none
+
+pub returns-in-Absent-clause-finished : goal.returns-in-Absent-clause-finished
+returns-in-Absent-clause-finished g c = λ t told surroundings old new files each finished.
+    let none = subst (λ at. map.get t at ≡ None) c.in_ok-work.ensures (absent_is_none t c.in_ok-work.work c.in_ok-stat.field-0 (c.in_ok-stat.ensures.kind t told) c.in-Absent.is) in
+    let same = reads_same _ _ _ c.stat.ensures.only_read ∙ sym (g.met.T.Tree.tells_its_disk c.args.tree.now t told).reads in
+    subst (λ now. HasFiles c.args.project.now now files) (sym same)
+    (own_files c.args.project.now t files (no_work_no_journal c.args.project.now t (g.met.T.Tree.tells_trees c.args.tree.now t told) none) finished)
+
+pub returns-in-Absent-clause-gone : goal.returns-in-Absent-clause-gone
+returns-in-Absent-clause-gone g c = λ t told.
+    subst (λ at. map.get t at ≡ None) c.in_ok-work.ensures
+    (absent_is_none t c.in_ok-work.work c.in_ok-stat.field-0 (c.in_ok-stat.ensures.kind t (sym c.stat.ensures.only_read.told ∙ told)) c.in-Absent.is)
+
+pub returns-in-Folder-clause-writes_none : goal.returns-in-Folder-clause-writes_none
+returns-in-Folder-clause-writes_none g c =
+    writes_none_on _ _ _ _ c.finish_claimed.ensures.writes_none (writes_none_read _ _ _ _ c.in_ok-stat.ensures.only_read (writes_none_start _))
+
+pub returns-in-Folder-clause-through : goal.returns-in-Folder-clause-through
+returns-in-Folder-clause-through g c = λ t told surroundings old new each.
+    through_on (IsInFlight c.args.project.now surroundings old new) _ _ _
+    (through_then_read (IsInFlight c.args.project.now surroundings old new) _ _ _ _ c.stat.ensures.only_read (through_from (IsInFlight c.args.project.now surroundings old new) _ each))
+    (c.finish_claimed.ensures.through t (c.stat.ensures.only_read.told ∙ told) surroundings old new c.in_ok-work.ensures
+    (images_read (IsInFlight c.args.project.now surroundings old new) _ _ _ c.stat.ensures.only_read each))
+
+pub returns-in-Folder-clause-found : goal.returns-in-Folder-clause-found
+returns-in-Folder-clause-found g c = IfOk-weaker c.finish_claimed.result _ _
+    (λ found ended t told.
+    let under = subst (λ at. is_root at ≡ false) (sym c.in_ok-work.ensures) (work_under c.args.project.now) in
+    let there = subst (λ at. map.get t at ≡ Some Folder) c.in_ok-work.ensures
+    (folder_is_some t c.in_ok-work.work c.in_ok-stat.field-0 (c.in_ok-stat.ensures.kind t told) c.in-Folder.is under) in
+    ended_in c.args.project.now t found there (ended t (c.stat.ensures.only_read.told ∙ told) c.in_ok-work.ensures))
+    c.finish_claimed.ensures.found
+
+pub returns-in-Absent-clause-settled : goal.returns-in-Absent-clause-settled
+returns-in-Absent-clause-settled g c = λ t told there.
+    let none = subst (λ at. map.get t at ≡ None) c.in_ok-work.ensures (absent_is_none t c.in_ok-work.work c.in_ok-stat.field-0 (c.in_ok-stat.ensures.kind t told) c.in-Absent.is) in
+    let no = ap is_some none in
+    absurd cc
+
+pub returns-in-Folder-clause-finished : goal.returns-in-Folder-clause-finished
+returns-in-Folder-clause-finished g c = on_ok_weaker c.finish_claimed.result
+    (λ done t told surroundings old new files each finished.
+    (done t (c.stat.ensures.only_read.told ∙ told) surroundings old new files c.in_ok-work.ensures
+    (images_read (IsInFlight c.args.project.now surroundings old new) _ _ _ c.stat.ensures.only_read each) finished
+    (reading (g.T.Tree.meaning c.finish_claimed.new.tree).disks.now) (reading_is_image (g.T.Tree.meaning c.finish_claimed.new.tree).disks.now)).has_files)
+    c.finish_claimed.ensures.finished
+
+pub returns-in-Folder-clause-settled : goal.returns-in-Folder-clause-settled
+returns-in-Folder-clause-settled g c = on_ok_weaker c.finish_claimed.result
+    (λ done t told there surroundings old new files each finished.
+    done t (c.stat.ensures.only_read.told ∙ told) surroundings old new files c.in_ok-work.ensures
+    (images_read (IsInFlight c.args.project.now surroundings old new) _ _ _ c.stat.ensures.only_read each) finished)
+    c.finish_claimed.ensures.finished
+
+pub returns-in-Folder-clause-gone : goal.returns-in-Folder-clause-gone
+returns-in-Folder-clause-gone g c = on_ok_weaker c.finish_claimed.result
+    (λ gone t told. subst (λ at. map.get t at ≡ None) c.in_ok-work.ensures (gone t told))
+    c.finish_claimed.ensures.gone
+
+pub returns-in_default-clause-writes_none : goal.returns-in_default-clause-writes_none
+returns-in_default-clause-writes_none g c = writes_none_read _ _ _ _ c.in_ok-stat.ensures.only_read (writes_none_start _)
+
+pub returns-in_default-clause-through : goal.returns-in_default-clause-through
+returns-in_default-clause-through g c = λ t told surroundings old new each.
+    through_then_read (IsInFlight c.args.project.now surroundings old new) _ _ _ _ c.stat.ensures.only_read (through_from (IsInFlight c.args.project.now surroundings old new) _ each)
+
+pub returns-in-Folder-clause-bad : goal.returns-in-Folder-clause-bad
+returns-in-Folder-clause-bad g c = λ place is.
+    let found = c.finish_claimed.ensures.bad place is in
+    (only_read_on c.in_ok-stat.ensures.only_read found.0, λ t told. found.1 t (c.stat.ensures.only_read.told ∙ told) c.in_ok-work.ensures)

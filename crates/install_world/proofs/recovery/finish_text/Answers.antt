@@ -1,0 +1,161 @@
+use Rattle.std.proofs.Common.{◌≡◌, refl, ap, Err, ◌∙◌, sym, subst, Some}
+use Rattle.std.specs.FinMap as map
+use Rattle.std.proofs.lemmas.Result.{err_from_is_err_and}
+use Rattle.tree_dev.specs.Device.{only_read_refl}
+use Rattle.tree_dev.specs.Disk.{Disks}
+use Rattle.tree_dev.specs.Steady.{IsWhole}
+use Rattle.tree_dev.specs.declared.entry.Entry.TheVariants.{File}
+use Rattle.tree_dev.proofs.Stretches.{through_ends, through_from, through_on}
+use Rattle.tree_dev.proofs.Whole.{settled_is_whole, through_then_barrier}
+use Rattle.install_world.specs.InFlight.{IsInFlight}
+use Rattle.install_world.specs.Moving.{IsOnWay}
+use Rattle.install_world.proofs.JournalEnds.{new_through, then_work_goes}
+use Rattle.install_world.proofs.RecoveryRules.{bad_journal_of, image_reads, new_files, no_bad_part, no_bad_removal, settled_images, way_begins, way_of, writes_none_parting, writes_none_removing, writes_none_text}
+use Rattle.install_world.specs.Recovery.{IsNewProject, fault_of_journal}
+use Rattle.install_world.specs.declared.recovery_fault.RecoverFault.TheVariants.{BadJournal}
+use Rattle.install_world.proofs.RemovalRules.{writes_none_barrier, writes_none_on, writes_none_start}
+use Rattle.install_world.specs.declared.recovery_fault.Recovered.{Recovered}
+use Rattle.install_world.proofs.recovery.finish_text.Goals as goal
+
+pub returns-in_err-journal-clause-writes_none : goal.returns-in_err-journal-clause-writes_none
+returns-in_err-journal-clause-writes_none g c =
+    let p = err_from_is_err_and c.from_residual.result c.from_residual.ensures.1 in
+    rw (p.1, p.2) (writes_none_text Recovered _ _ c.in_err-journal.field-0.0 (writes_none_start _))
+
+pub returns-in_err-journal-clause-through : goal.returns-in_err-journal-clause-through
+returns-in_err-journal-clause-through g c = λ t told surroundings old new is_work is_at there small each. through_from (IsInFlight c.args.project.now surroundings old new) _ each
+
+pub returns-in_err-journal-clause-bad : goal.returns-in_err-journal-clause-bad
+returns-in_err-journal-clause-bad g c = λ place is.
+    let p = err_from_is_err_and c.from_residual.result c.from_residual.ensures.1 in
+    let given = p.1 in
+    let from = p.2 in
+    let same : fault_of_journal c.in_err-journal.field-0.0 ≡ BadJournal place = cc in
+    (c.in_err-journal.ensures.bad place (ap Err (bad_journal_of c.in_err-journal.field-0.0 place same)), only_read_refl _)
+
+pub returns-in_err-barrier-clause-writes_none : goal.returns-in_err-barrier-clause-writes_none
+returns-in_err-barrier-clause-writes_none g c =
+    let p = err_from_is_err_and c.from_residual-in_err-barrier.result c.from_residual-in_err-barrier.ensures.1 in
+    rw (p.1, p.2) (writes_none_barrier _ _ _ _ c.barrier.ensures.moments (λ failed. c.in_err-barrier.ensures.cause) (writes_none_start _))
+
+pub returns-in_err-barrier-clause-through : goal.returns-in_err-barrier-clause-through
+returns-in_err-barrier-clause-through g c = λ t told surroundings old new is_work is_at there small each.
+    through_then_barrier (IsInFlight c.args.project.now surroundings old new) _ _ _ c.barrier.ensures.moments (through_from (IsInFlight c.args.project.now surroundings old new) _ each)
+
+pub returns-in_err-finish_journal-clause-writes_none : goal.returns-in_err-finish_journal-clause-writes_none
+returns-in_err-finish_journal-clause-writes_none g c =
+    let p = err_from_is_err_and c.from_residual-in_err-finish_journal.result c.from_residual-in_err-finish_journal.ensures.1 in
+    rw (p.1, p.2) (writes_none_parting (Unit {0}) Recovered _ _ c.in_err-finish_journal.field-0.0 (writes_none_on _ _ _ _ c.in_err-finish_journal.ensures.writes_none
+    (writes_none_barrier _ _ _ _ c.barrier.ensures.moments (λ failed. absurd cc) (writes_none_start _))))
+
+pub returns-in_err-finish_journal-clause-through : goal.returns-in_err-finish_journal-clause-through
+returns-in_err-finish_journal-clause-through g c = λ t told surroundings old new is_work is_at there small each.
+    let first = g.T.Tree.meaning c.args.tree.now in
+    let second = g.T.Tree.meaning c.barrier.new.self in
+    let disk = g.met.T.Tree.tells_its_disk c.args.tree.now t told in
+    let way = way_of c.args.project.now surroundings old new c.in_ok-journal.journal in
+    let on = way_begins c.args.project.now surroundings old new c.in_ok-journal.journal c.args.text.now t
+    (image_reads (IsInFlight c.args.project.now surroundings old new) first t disk each)
+    (subst (λ path. map.get t path ≡ Some (File c.args.text.now)) is_at there) small c.in_ok-journal.ensures.says in
+    let settles = c.in_ok-barrier.ensures.done t told in
+    let each_second = settled_images (IsOnWay way) first second t disk settles on in
+    let whole = subst (λ (disks : Disks). IsWhole disks.now) (sym settles.disks) (settled_is_whole first.disks) in
+    let start = through_then_barrier (IsInFlight c.args.project.now surroundings old new) first first second c.barrier.ensures.moments
+    (through_from (IsInFlight c.args.project.now surroundings old new) first each) in
+    let told_second = settles.told ∙ told in
+    through_on (IsInFlight c.args.project.now surroundings old new) first second _ start
+    (c.finish_journal.ensures.through t told_second whole way refl refl is_at each_second)
+
+pub returns-in_err-remove_folder-clause-writes_none : goal.returns-in_err-remove_folder-clause-writes_none
+returns-in_err-remove_folder-clause-writes_none g c =
+    let p = err_from_is_err_and c.from_residual-in_err-remove_folder.result c.from_residual-in_err-remove_folder.ensures.1 in
+    rw (p.1, p.2) (writes_none_removing (Unit {0}) Recovered _ _ c.in_err-remove_folder.field-0.0 (writes_none_on _ _ _ _ c.in_err-remove_folder.ensures.writes_none
+    (writes_none_on _ _ _ _ c.in_ok-finish_journal.ensures.writes_none
+    (writes_none_barrier _ _ _ _ c.barrier.ensures.moments (λ failed. absurd cc) (writes_none_start _)))))
+
+pub returns-clause-writes_none : goal.returns-clause-writes_none
+returns-clause-writes_none g c =
+    writes_none_on _ _ _ _ c.in_ok-remove_folder.ensures.writes_none (writes_none_on _ _ _ _ c.in_ok-finish_journal.ensures.writes_none
+    (writes_none_barrier _ _ _ _ c.barrier.ensures.moments (λ failed. absurd cc) (writes_none_start _)))
+
+pub returns-in_err-remove_folder-clause-through : goal.returns-in_err-remove_folder-clause-through
+returns-in_err-remove_folder-clause-through g c = λ t told surroundings old new is_work is_at there small each.
+    let first = g.T.Tree.meaning c.args.tree.now in
+    let second = g.T.Tree.meaning c.barrier.new.self in
+    let disk = g.met.T.Tree.tells_its_disk c.args.tree.now t told in
+    let way = way_of c.args.project.now surroundings old new c.in_ok-journal.journal in
+    let on = way_begins c.args.project.now surroundings old new c.in_ok-journal.journal c.args.text.now t
+    (image_reads (IsInFlight c.args.project.now surroundings old new) first t disk each)
+    (subst (λ path. map.get t path ≡ Some (File c.args.text.now)) is_at there) small c.in_ok-journal.ensures.says in
+    let settles = c.in_ok-barrier.ensures.done t told in
+    let each_second = settled_images (IsOnWay way) first second t disk settles on in
+    let whole = subst (λ (disks : Disks). IsWhole disks.now) (sym settles.disks) (settled_is_whole first.disks) in
+    let start = through_then_barrier (IsInFlight c.args.project.now surroundings old new) first first second c.barrier.ensures.moments
+    (through_from (IsInFlight c.args.project.now surroundings old new) first each) in
+    let told_second = settles.told ∙ told in
+    let third = g.T.Tree.meaning c.finish_journal.new.tree in
+    let middle = c.finish_journal.ensures.through t told_second whole way refl refl is_at each_second in
+    let done = c.in_ok-finish_journal.ensures.settled t told_second whole way refl refl is_at each_second in
+    through_on (IsInFlight c.args.project.now surroundings old new) first third _ (through_on (IsInFlight c.args.project.now surroundings old new) first second third start middle)
+    (new_through way third _ (then_work_goes way c.args.work.now third _ is_work c.remove_folder.ensures.removes done))
+
+pub returns-clause-through : goal.returns-clause-through
+returns-clause-through g c = λ t told surroundings old new is_work is_at there small each.
+    let first = g.T.Tree.meaning c.args.tree.now in
+    let second = g.T.Tree.meaning c.barrier.new.self in
+    let disk = g.met.T.Tree.tells_its_disk c.args.tree.now t told in
+    let way = way_of c.args.project.now surroundings old new c.in_ok-journal.journal in
+    let on = way_begins c.args.project.now surroundings old new c.in_ok-journal.journal c.args.text.now t
+    (image_reads (IsInFlight c.args.project.now surroundings old new) first t disk each)
+    (subst (λ path. map.get t path ≡ Some (File c.args.text.now)) is_at there) small c.in_ok-journal.ensures.says in
+    let settles = c.in_ok-barrier.ensures.done t told in
+    let each_second = settled_images (IsOnWay way) first second t disk settles on in
+    let whole = subst (λ (disks : Disks). IsWhole disks.now) (sym settles.disks) (settled_is_whole first.disks) in
+    let start = through_then_barrier (IsInFlight c.args.project.now surroundings old new) first first second c.barrier.ensures.moments
+    (through_from (IsInFlight c.args.project.now surroundings old new) first each) in
+    let told_second = settles.told ∙ told in
+    let third = g.T.Tree.meaning c.finish_journal.new.tree in
+    let middle = c.finish_journal.ensures.through t told_second whole way refl refl is_at each_second in
+    let done = c.in_ok-finish_journal.ensures.settled t told_second whole way refl refl is_at each_second in
+    through_on (IsInFlight c.args.project.now surroundings old new) first third _ (through_on (IsInFlight c.args.project.now surroundings old new) first second third start middle)
+    (new_through way third _ (then_work_goes way c.args.work.now third _ is_work c.remove_folder.ensures.removes done))
+
+pub returns-clause-finished : goal.returns-clause-finished
+returns-clause-finished g c = λ t told surroundings old new files is_work is_at there small each finished.
+    let first = g.T.Tree.meaning c.args.tree.now in
+    let second = g.T.Tree.meaning c.barrier.new.self in
+    let disk = g.met.T.Tree.tells_its_disk c.args.tree.now t told in
+    let way = way_of c.args.project.now surroundings old new c.in_ok-journal.journal in
+    let on = way_begins c.args.project.now surroundings old new c.in_ok-journal.journal c.args.text.now t
+    (image_reads (IsInFlight c.args.project.now surroundings old new) first t disk each)
+    (subst (λ path. map.get t path ≡ Some (File c.args.text.now)) is_at there) small c.in_ok-journal.ensures.says in
+    let settles = c.in_ok-barrier.ensures.done t told in
+    let each_second = settled_images (IsOnWay way) first second t disk settles on in
+    let whole = subst (λ (disks : Disks). IsWhole disks.now) (sym settles.disks) (settled_is_whole first.disks) in
+    let start = through_then_barrier (IsInFlight c.args.project.now surroundings old new) first first second c.barrier.ensures.moments
+    (through_from (IsInFlight c.args.project.now surroundings old new) first each) in
+    let told_second = settles.told ∙ told in
+    let done = c.in_ok-finish_journal.ensures.settled t told_second whole way refl refl is_at each_second in
+    λ left image.
+    let now = through_ends (IsNewProject way) (g.T.Tree.meaning c.finish_journal.new.tree) (g.T.Tree.meaning c.remove_folder.new.tree)
+    (then_work_goes way c.args.work.now (g.T.Tree.meaning c.finish_journal.new.tree) (g.T.Tree.meaning c.remove_folder.new.tree) is_work c.remove_folder.ensures.removes done) left image in
+    record {
+      no_journal = now.no_journal;
+      has_files = new_files c.args.project.now surroundings old new files c.in_ok-journal.journal c.args.text.now t left
+          (image_reads (IsInFlight c.args.project.now surroundings old new) first t disk each)
+          (subst (λ path. map.get t path ≡ Some (File c.args.text.now)) is_at there) small c.in_ok-journal.ensures.says finished now.files;
+    }
+
+pub returns-in_err-finish_journal-clause-bad : goal.returns-in_err-finish_journal-clause-bad
+returns-in_err-finish_journal-clause-bad g c = λ place is.
+    let p = err_from_is_err_and c.from_residual-in_err-finish_journal.result c.from_residual-in_err-finish_journal.ensures.1 in
+    let given = p.1 in
+    let from = p.2 in
+    absurd (no_bad_part c.in_err-finish_journal.field-0.0 place cc)
+
+pub returns-in_err-remove_folder-clause-bad : goal.returns-in_err-remove_folder-clause-bad
+returns-in_err-remove_folder-clause-bad g c = λ place is.
+    let p = err_from_is_err_and c.from_residual-in_err-remove_folder.result c.from_residual-in_err-remove_folder.ensures.1 in
+    let given = p.1 in
+    let from = p.2 in
+    absurd (no_bad_removal c.in_err-remove_folder.field-0.0 place cc)

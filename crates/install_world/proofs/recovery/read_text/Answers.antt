@@ -1,0 +1,28 @@
+use Rattle.std.proofs.Common.{◌∙◌, ℕ, List, Option, sym, arith}
+use Rattle.tree_dev.specs.declared.entry.ReadAnswer.{ReadAnswer}
+use Rattle.std.proofs.lemmas.Result.{err_from_is_err_and}
+use Rattle.install_world.proofs.RecoveryRules.{absent_read, bytes_read, read_failing}
+use Rattle.install_world.proofs.recovery.read_text.Goals as goal
+
+pub returns-in_err-text-clause-only_read : goal.returns-in_err-text-clause-only_read
+returns-in_err-text-clause-only_read g c =
+    let p = err_from_is_err_and c.from_residual.result c.from_residual.ensures.1 in
+    rw (p.1, p.2) (read_failing ReadAnswer (Option (List ℕ)) _ _ c.in_err-text.field-0.0 c.in_err-text.ensures.only_read)
+
+pub returns-in-Bytes-clause-text : goal.returns-in-Bytes-clause-text
+returns-in-Bytes-clause-text g c = λ t told.
+    let found = bytes_read t c.args.at.now 67108864 c.in-Bytes.text (sym c.in-Bytes.is ∙ c.in_ok-text.ensures.answer t told) in
+    (found.0, let small = found.1 in omega arith)
+
+pub returns-in-Absent-clause-text : goal.returns-in-Absent-clause-text
+returns-in-Absent-clause-text g c = λ t told. absent_read t c.args.at.now 67108864 (sym c.in-Absent.is ∙ c.in_ok-text.ensures.answer t told)
+
+pub returns-in_err-copy-in-NotFile-clause-only_read : goal.returns-in_err-copy-in-NotFile-clause-only_read
+returns-in_err-copy-in-NotFile-clause-only_read g c =
+    let p = err_from_is_err_and c.from_residual-in_err-copy-in-NotFile.result c.from_residual-in_err-copy-in-NotFile.ensures.1 in
+    rw (p.1, p.2) c.in_ok-text.ensures.only_read
+
+pub returns-in_err-copy-in-TooLong-clause-only_read : goal.returns-in_err-copy-in-TooLong-clause-only_read
+returns-in_err-copy-in-TooLong-clause-only_read g c =
+    let p = err_from_is_err_and c.from_residual-in_err-copy-in-TooLong.result c.from_residual-in_err-copy-in-TooLong.ensures.1 in
+    rw (p.1, p.2) c.in_ok-text.ensures.only_read

@@ -1,0 +1,59 @@
+use Rattle.std.proofs.Common.{sym, subst}
+use Rattle.std.proofs.lemmas.Result.{err_from_is_err_and}
+use Rattle.tree_dev.proofs.Stretches.{through_from}
+use Rattle.tree_dev.proofs.Whole.{through_then_barrier}
+use Rattle.install_world.specs.InFlight.{IsInFlight}
+use Rattle.install_world.specs.Removals.{OnlyRemoved}
+use Rattle.install_world.proofs.JournalEnds.{in_flight_left}
+use Rattle.install_world.proofs.PartCleared.{images_cleared, through_cleared}
+use Rattle.install_world.proofs.RecoveryRules.{image_reads, no_bad_removal, writes_none_removing}
+use Rattle.install_world.proofs.RemovalRules.{writes_none_barrier, writes_none_on, writes_none_start}
+use Rattle.install_world.specs.declared.recovery_fault.Recovered.{Recovered}
+use Rattle.install_world.proofs.recovery.take_install_away.Goals as goal
+
+pub returns-in_err-barrier-clause-writes_none : goal.returns-in_err-barrier-clause-writes_none
+returns-in_err-barrier-clause-writes_none g c =
+    let p = err_from_is_err_and c.from_residual.result c.from_residual.ensures.1 in
+    rw (p.1, p.2) (writes_none_barrier _ _ _ _ c.barrier.ensures.moments (λ failed. c.in_err-barrier.ensures.cause) (writes_none_start _))
+
+pub returns-in_err-barrier-clause-through : goal.returns-in_err-barrier-clause-through
+returns-in_err-barrier-clause-through g c = λ t told project surroundings old new is none each.
+    through_then_barrier (IsInFlight project surroundings old new) _ _ _ c.barrier.ensures.moments (through_from (IsInFlight project surroundings old new) _ each)
+
+pub returns-in_err-remove_folder-clause-writes_none : goal.returns-in_err-remove_folder-clause-writes_none
+returns-in_err-remove_folder-clause-writes_none g c =
+    let p = err_from_is_err_and c.from_residual-in_err-remove_folder.result c.from_residual-in_err-remove_folder.ensures.1 in
+    rw (p.1, p.2) (writes_none_removing (Unit {0}) Recovered _ _ c.in_err-remove_folder.field-0.0 (writes_none_on _ _ _ _ c.in_err-remove_folder.ensures.writes_none
+    (writes_none_barrier _ _ _ _ c.barrier.ensures.moments (λ failed. absurd cc) (writes_none_start _))))
+
+pub returns-in_err-remove_folder-clause-through : goal.returns-in_err-remove_folder-clause-through
+returns-in_err-remove_folder-clause-through g c = λ t told project surroundings old new is none each.
+    let disk = g.met.T.Tree.tells_its_disk c.args.tree.now t told in
+    through_cleared (IsInFlight project surroundings old new) c.args.work.now t
+    (λ left removed. in_flight_left project surroundings old new t left (subst (λ at. OnlyRemoved at t left) is removed) none (image_reads (IsInFlight project surroundings old new) (g.T.Tree.meaning c.args.tree.now) t disk each))
+    _ _ _ _ (c.in_ok-barrier.ensures.done t told) (sym disk.reads) c.remove_folder.ensures.removes
+    (through_then_barrier (IsInFlight project surroundings old new) _ _ _ c.barrier.ensures.moments (through_from (IsInFlight project surroundings old new) _ each))
+
+pub returns-clause-writes_none : goal.returns-clause-writes_none
+returns-clause-writes_none g c =
+    writes_none_on _ _ _ _ c.in_ok-remove_folder.ensures.writes_none (writes_none_barrier _ _ _ _ c.barrier.ensures.moments (λ failed. absurd cc) (writes_none_start _))
+
+pub returns-clause-through : goal.returns-clause-through
+returns-clause-through g c = λ t told project surroundings old new is none each.
+    let disk = g.met.T.Tree.tells_its_disk c.args.tree.now t told in
+    through_cleared (IsInFlight project surroundings old new) c.args.work.now t
+    (λ left removed. in_flight_left project surroundings old new t left (subst (λ at. OnlyRemoved at t left) is removed) none (image_reads (IsInFlight project surroundings old new) (g.T.Tree.meaning c.args.tree.now) t disk each))
+    _ _ _ _ (c.in_ok-barrier.ensures.done t told) (sym disk.reads) c.remove_folder.ensures.removes
+    (through_then_barrier (IsInFlight project surroundings old new) _ _ _ c.barrier.ensures.moments (through_from (IsInFlight project surroundings old new) _ each))
+
+pub returns-in_err-remove_folder-clause-not_bad : goal.returns-in_err-remove_folder-clause-not_bad
+returns-in_err-remove_folder-clause-not_bad g c = λ place is.
+    let p = err_from_is_err_and c.from_residual-in_err-remove_folder.result c.from_residual-in_err-remove_folder.ensures.1 in
+    let given = p.1 in
+    let from = p.2 in
+    no_bad_removal c.in_err-remove_folder.field-0.0 place cc
+
+pub returns-clause-left : goal.returns-clause-left
+returns-clause-left g c = λ t told.
+    images_cleared c.args.work.now t (g.T.Tree.meaning c.args.tree.now) (g.T.Tree.meaning c.barrier.new.self) (g.T.Tree.meaning c.remove_folder.new.tree)
+    (c.in_ok-barrier.ensures.done t told) (sym (g.met.T.Tree.tells_its_disk c.args.tree.now t told).reads) c.remove_folder.ensures.removes

@@ -1,0 +1,75 @@
+//! A job that was committed, done to its end: its parts, and then its journal.
+
+ghost use Rattle.std.specs.Prelude.{◌≡◌, IfOk, OnOk, is_err};
+ghost use Rattle.tree_dev.specs.Device.{OfTold};
+ghost use Rattle.tree_dev.specs.declared.did.Did.TheVariants as dids;
+ghost use Rattle.tree_dev.specs.Steady.{EachImage, IsWhole, Through};
+ghost use Rattle.tree_dev.specs.Projects.{journal_path};
+ghost use Rattle.install_world.specs.InFlight.{AreAllDone, IsInFlight};
+ghost use Rattle.install_world.specs.Moving.{IsOnWay, Way};
+ghost use Rattle.install_world.specs.PartFaults.{is_device_fault};
+ghost use Rattle.install_world.specs.Recovery.{IsNewProject};
+ghost use Rattle.install_world.specs.Removals.{WritesNone};
+
+use crate::parts::{finish_parts, make_folder};
+use crate::{Journal, PartFault};
+use path_name::Path;
+use std::alloc::Global;
+use tree_dev::{Did, Failed, Tree};
+
+/// Takes the journal away once its parts are done, with a barrier before it and one behind it. Misplaced: no file is there.
+pub fn remove_journal<T: Tree>(tree: &mut T, journal: &Path) -> Result<Did, Failed>
+    ensures writes_none { WritesNone (T.meaning tree.old) (T.meaning tree.new) (is_err result) }
+    ensures through { OfTold (T.meaning tree.old) (λ t. IsWhole (T.meaning tree.old).disks.now → (way : Way) → journal.now ≡ journal_path way.project
+        → AreAllDone way.project way.journal.targets t → EachImage (T.meaning tree.old) (IsOnWay way)
+        → Through (T.meaning tree.old) (T.meaning tree.new) (IsInFlight way.project way.surroundings way.old way.new)) }
+    ensures settled { IfOk result (λ did. did ≡ dids.Done → OfTold (T.meaning tree.old) (λ t. (way : Way) → journal.now ≡ journal_path way.project
+        → AreAllDone way.project way.journal.targets t → IsOnWay way t → EachImage (T.meaning tree.new) (IsNewProject way))) }
+{
+    tree.barrier()?;
+    match tree.remove_file(journal)? {
+        Did::Done => {
+            tree.barrier()?;
+            Ok(Did::Done)
+        }
+        Did::Misplaced => Ok(Did::Misplaced),
+    }
+}
+
+/// The same; `Vanished`: no file is there.
+fn end_journal<T: Tree>(alloc: Global, tree: &mut T, journal: &Path) -> Result<(), PartFault>
+    ensures writes_none { WritesNone (T.meaning tree.old) (T.meaning tree.new) (is_device_fault result) }
+    ensures through { OfTold (T.meaning tree.old) (λ t. IsWhole (T.meaning tree.old).disks.now → (way : Way) → journal.now ≡ journal_path way.project
+        → AreAllDone way.project way.journal.targets t → EachImage (T.meaning tree.old) (IsOnWay way)
+        → Through (T.meaning tree.old) (T.meaning tree.new) (IsInFlight way.project way.surroundings way.old way.new)) }
+    ensures settled { OnOk result (OfTold (T.meaning tree.old) (λ t. (way : Way) → journal.now ≡ journal_path way.project
+        → AreAllDone way.project way.journal.targets t → IsOnWay way t → EachImage (T.meaning tree.new) (IsNewProject way))) }
+{
+    match remove_journal(tree, journal)? {
+        Did::Done => Ok(()),
+        Did::Misplaced => Err(PartFault::Vanished(journal.copy(alloc)?)),
+    }
+}
+
+/// Finishes the parts of a journal that stands, and takes it away.
+pub(crate) fn finish_journal<T: Tree>(
+    alloc: Global,
+    tree: &mut T,
+    project: &Path,
+    at: &Path,
+    journal: &Journal,
+) -> Result<(), PartFault>
+    ensures writes_none { WritesNone (T.meaning tree.old) (T.meaning tree.new) (is_device_fault result) }
+    ensures through { OfTold (T.meaning tree.old) (λ t. IsWhole (T.meaning tree.old).disks.now → (way : Way)
+        → way.project ≡ project.now → way.journal ≡ journal.now → at.now ≡ journal_path project.now → EachImage (T.meaning tree.old) (IsOnWay way)
+        → Through (T.meaning tree.old) (T.meaning tree.new) (IsInFlight way.project way.surroundings way.old way.new)) }
+    ensures settled { OnOk result (OfTold (T.meaning tree.old) (λ t. IsWhole (T.meaning tree.old).disks.now → (way : Way)
+        → way.project ≡ project.now → way.journal ≡ journal.now → at.now ≡ journal_path project.now → EachImage (T.meaning tree.old) (IsOnWay way)
+        → EachImage (T.meaning tree.new) (IsNewProject way))) }
+{
+    let work = project.child(alloc, b".install")?;
+    let old = work.child(alloc, b"old")?;
+    make_folder(alloc, tree, &old)?;
+    finish_parts(alloc, tree, project, journal.targets.as_slice())?;
+    end_journal(alloc, tree, at)
+}

@@ -1,0 +1,321 @@
+//! The parts of a job that was committed, each finished.
+
+ghost use Rattle.std.specs.Prelude.{◌≡◌, ◌⊎◌, ◌++◌, ℕ, List, true, false, IfOk, OnOk, is_err, is_some};
+ghost use Rattle.tree_dev.specs.Trees.{FileTree, entry_at, has_folder, is_folder};
+ghost use Rattle.path_name.specs.Decimals.{decimal_text};
+ghost use Rattle.path_name.specs.Paths.{without_last};
+ghost use Rattle.tree_dev.specs.Changes.{is_root};
+ghost use Rattle.tree_dev.specs.Device.{OfTold, OnlyRead};
+ghost use Rattle.tree_dev.specs.Disk.{reading};
+ghost use Rattle.tree_dev.specs.Steady.{EachImage, IsWhole, Through};
+ghost use Rattle.install_world.specs.InFlight.{AreAllDone, IsPart, IsPartDone, IsThere};
+ghost use Rattle.install_world.specs.Moving.{Way, IsOnWay, ArePlaces};
+ghost use Rattle.install_world.specs.Removals.{OnlyRemoved, Removes, WritesNone};
+ghost use Rattle.install_world.specs.PartFaults.{is_device_fault};
+ghost use Rattle.install_world.specs.Targets.{IsTargetPath};
+ghost use Rattle.install_world.specs.declared.target.Target.{Target as Targets};
+
+use crate::{PartFault, PartPlaces, Target, move_part, remove_folder};
+use path_name::{Path, path_is_segments, push_number};
+use std::alloc::{AllocError, Global};
+use tree_dev::{Did, Failed, Kind, Made, Tree};
+
+/// A part's number as a name.
+fn number_name(alloc: Global, number: u64) -> Result<Vec<u8>, AllocError>
+    ensures { IfOk result (λ digits. digits.items ≡ decimal_text number) }
+{
+    let mut digits = Vec::new(alloc);
+    push_number(&mut digits, number)?;
+    Ok(digits)
+}
+
+/// Where a part stands. Its one refusal is want of memory.
+pub fn places_of(
+    alloc: Global,
+    project: &Path,
+    number: u64,
+    target: &Target,
+) -> Result<PartPlaces, AllocError>
+    ensures { IsTargetPath target.now.path → IfOk result (ArePlaces project.now number target.now) }
+{
+    let digits = number_name(alloc, number)?;
+    let name = digits.as_slice();
+    let work = project.child(alloc, b".install")?;
+    let new = work.child(alloc, b"new")?;
+    let old = work.child(alloc, b"old")?;
+    let staged = new.child(alloc, name)?;
+    let kept = old.child(alloc, name)?;
+    let at = project.join(alloc, &target.path)?;
+    Ok(PartPlaces {
+        target: at,
+        staged,
+        kept,
+    })
+}
+
+/// Makes a folder. `Vanished`: something is there, or no folder is above it.
+fn make_missing<T: Tree>(alloc: Global, tree: &mut T, at: &Path) -> Result<(), PartFault>
+    ensures { WritesNone (T.meaning tree.old) (T.meaning tree.new) (is_device_fault result) }
+{
+    match tree.make_dir(at)? {
+        Made::New => Ok(()),
+        _ => Err(PartFault::Vanished(at.copy(alloc)?)),
+    }
+}
+
+/// Makes a folder where nothing is. `OtherEntry`: an entry is there that is no folder.
+pub(crate) fn make_folder<T: Tree>(alloc: Global, tree: &mut T, at: &Path) -> Result<(), PartFault>
+    ensures writes_none { WritesNone (T.meaning tree.old) (T.meaning tree.new) (is_device_fault result) }
+    ensures still { OfTold (T.meaning tree.old) (λ t. is_folder (entry_at t at.now) ≡ true → (T.meaning tree.new).disks ≡ (T.meaning tree.old).disks) }
+{
+    match tree.stat(at)? {
+        Kind::Folder => Ok(()),
+        Kind::Absent => make_missing(alloc, tree, at),
+        _ => Err(PartFault::OtherEntry(at.copy(alloc)?)),
+    }
+}
+
+/// Makes the missing ones of the folders on the way from the project to a path.
+fn make_folders<T: Tree>(
+    alloc: Global,
+    tree: &mut T,
+    project: &Path,
+    path: &Path,
+) -> Result<(), PartFault>
+    ensures { WritesNone (T.meaning tree.old) (T.meaning tree.new) (is_device_fault result) }
+{
+    path_is_segments(path);
+    let names = path.segments(alloc)?;
+    let mut at = project.copy(alloc)?;
+    for name in names.as_slice() {
+        at.enter(name.as_slice())?;
+        make_folder(alloc, tree, &at)?;
+    }
+    Ok(())
+}
+
+/// Makes the missing ones of the folders between a project and a target.
+fn make_above<T: Tree>(
+    alloc: Global,
+    tree: &mut T,
+    project: &Path,
+    target: &Path,
+) -> Result<(), PartFault>
+    ensures { WritesNone (T.meaning tree.old) (T.meaning tree.new) (is_device_fault result) }
+{
+    match target.parent(alloc)? {
+        None => Ok(()),
+        Some(above) => make_folders(alloc, tree, project, &above),
+    }
+}
+
+/// The same where the folder right above the target is not there.
+fn make_up_to<T: Tree>(
+    alloc: Global,
+    tree: &mut T,
+    project: &Path,
+    target: &Path,
+    parent: &Path,
+) -> Result<(), PartFault>
+    ensures writes_none { WritesNone (T.meaning tree.old) (T.meaning tree.new) (is_device_fault result) }
+    ensures still { OfTold (T.meaning tree.old) (λ t. is_folder (entry_at t parent.now) ≡ true → (T.meaning tree.new).disks ≡ (T.meaning tree.old).disks) }
+{
+    match tree.stat(parent)? {
+        Kind::Folder => Ok(()),
+        _ => make_above(alloc, tree, project, target),
+    }
+}
+
+/// Makes the missing folders above a target. Where the one right above it is there, that is all that is asked.
+fn make_parents<T: Tree>(
+    alloc: Global,
+    tree: &mut T,
+    project: &Path,
+    target: &Path,
+) -> Result<(), PartFault>
+    ensures writes_none { WritesNone (T.meaning tree.old) (T.meaning tree.new) (is_device_fault result) }
+    ensures still { OfTold (T.meaning tree.old) (λ t. has_folder t (without_last (project.now ++ target.now)) ≡ true
+        → (T.meaning tree.new).disks ≡ (T.meaning tree.old).disks) }
+{
+    let whole = project.join(alloc, target)?;
+    match whole.parent(alloc)? {
+        None => Ok(()),
+        Some(parent) => make_up_to(alloc, tree, project, target, &parent),
+    }
+}
+
+/// Whether something is at a path.
+fn is_there<T: Tree>(tree: &mut T, at: &Path) -> Result<bool, Failed>
+    ensures only_read { OnlyRead (T.meaning tree.old) (T.meaning tree.new) (is_err result) }
+    ensures there { IfOk result (λ there. there ≡ true → OfTold (T.meaning tree.old) (λ t. is_root at.now ≡ false → IsThere t at.now)) }
+{
+    match tree.stat(at)? {
+        Kind::Absent => Ok(false),
+        _ => Ok(true),
+    }
+}
+
+/// Whether something is at the target of a part that is still to be moved.
+fn is_taken<T: Tree>(tree: &mut T, places: &PartPlaces, gone: bool) -> Result<bool, Failed>
+    ensures only_read { OnlyRead (T.meaning tree.old) (T.meaning tree.new) (is_err result) }
+    ensures taken { IfOk result (λ taken. taken ≡ true → OfTold (T.meaning tree.old) (λ t. (project : List (List ℕ)) (number : ℕ) (target : Targets)
+        → ArePlaces project number target places.now → IsThere t places.now.target × ((gone ≡ true) ⊎ IsThere t places.now.staged))) }
+{
+    if gone {
+        return is_there(tree, &places.target);
+    }
+    match tree.stat(&places.staged)? {
+        Kind::Absent => Ok(false),
+        _ => is_there(tree, &places.target),
+    }
+}
+
+/// Removes an entry that is no folder. `Vanished`: nothing or a folder is there.
+fn remove_one<T: Tree>(alloc: Global, tree: &mut T, at: &Path) -> Result<(), PartFault>
+    ensures writes_none { WritesNone (T.meaning tree.old) (T.meaning tree.new) (is_device_fault result) }
+    ensures removes { Removes at.now (T.meaning tree.old) (T.meaning tree.new) }
+{
+    match tree.remove_file(at)? {
+        Did::Done => Ok(()),
+        Did::Misplaced => Err(PartFault::Vanished(at.copy(alloc)?)),
+    }
+}
+
+/// Removes what stands at a path, a folder with all that is in it.
+fn remove_entry<T: Tree>(
+    alloc: Global,
+    tree: &mut T,
+    at: &Path,
+    kind: Kind,
+) -> Result<(), PartFault>
+    ensures writes_none { WritesNone (T.meaning tree.old) (T.meaning tree.new) (is_device_fault result) }
+    ensures removes { Removes at.now (T.meaning tree.old) (T.meaning tree.new) }
+{
+    match kind {
+        Kind::Folder => {
+            remove_folder(alloc, tree, at)?;
+            Ok(())
+        }
+        _ => remove_one(alloc, tree, at),
+    }
+}
+
+/// What kind of entry stands where the target of a part is to be taken, if one does.
+fn kept_in_the_way<T: Tree>(
+    tree: &mut T,
+    places: &PartPlaces,
+    gone: bool,
+) -> Result<Option<Kind>, Failed>
+    ensures only_read { OnlyRead (T.meaning tree.old) (T.meaning tree.new) (is_err result) }
+    ensures taken { IfOk result (λ found. is_some found ≡ true → OfTold (T.meaning tree.old) (λ t. (project : List (List ℕ)) (number : ℕ) (target : Targets)
+        → ArePlaces project number target places.now → IsThere t places.now.target × ((gone ≡ true) ⊎ IsThere t places.now.staged))) }
+{
+    let kind = tree.stat(&places.kept)?;
+    if kind == Kind::Absent {
+        return Ok(None);
+    }
+    let taken = is_taken(tree, places, gone)?;
+    Ok(if taken { Some(kind) } else { None })
+}
+
+/// Removes what stands at a path. A barrier comes first, so that a crash leaves the tree as it reads, but for what was
+/// removed.
+fn settle_and_remove<T: Tree>(
+    alloc: Global,
+    tree: &mut T,
+    at: &Path,
+    kind: Kind,
+) -> Result<(), PartFault>
+    ensures writes_none { WritesNone (T.meaning tree.old) (T.meaning tree.new) (is_device_fault result) }
+    ensures removes { OnlyRemoved at.now (reading (T.meaning tree.old).disks.now) (reading (T.meaning tree.new).disks.now) }
+    ensures through { OfTold (T.meaning tree.old) (λ t. (way : Way) → ((left : FileTree) → OnlyRemoved at.now t left → IsOnWay way left)
+        → EachImage (T.meaning tree.old) (IsOnWay way) → Through (T.meaning tree.old) (T.meaning tree.new) (IsOnWay way)) }
+{
+    tree.barrier()?;
+    remove_entry(alloc, tree, at, kind)
+}
+
+/// Removes what stands where the target of a part is to be taken.
+fn clear_kept<T: Tree>(
+    alloc: Global,
+    tree: &mut T,
+    places: &PartPlaces,
+    gone: bool,
+) -> Result<(), PartFault>
+    ensures writes_none { WritesNone (T.meaning tree.old) (T.meaning tree.new) (is_device_fault result) }
+    ensures removes { OnlyRemoved places.now.kept (reading (T.meaning tree.old).disks.now) (reading (T.meaning tree.new).disks.now) }
+    ensures through { OfTold (T.meaning tree.old) (λ t. (way : Way) (number : ℕ) (target : Targets)
+        → ArePlaces way.project number target places.now → IsPart way.journal.targets number target → target.gone ≡ gone
+        → EachImage (T.meaning tree.old) (IsOnWay way) → Through (T.meaning tree.old) (T.meaning tree.new) (IsOnWay way)) }
+{
+    match kept_in_the_way(tree, places, gone)? {
+        None => Ok(()),
+        Some(kind) => settle_and_remove(alloc, tree, &places.kept, kind),
+    }
+}
+
+/// Makes ready what the moves of a part need: the folders above its target, and nothing where the target is taken.
+fn prepare_part<T: Tree>(
+    alloc: Global,
+    tree: &mut T,
+    project: &Path,
+    target: &Target,
+    places: &PartPlaces,
+) -> Result<(), PartFault>
+    ensures writes_none { WritesNone (T.meaning tree.old) (T.meaning tree.new) (is_device_fault result) }
+    ensures through { OfTold (T.meaning tree.old) (λ t. (way : Way) (number : ℕ) → way.project ≡ project.now
+        → ArePlaces project.now number target.now places.now → IsPart way.journal.targets number target.now
+        → EachImage (T.meaning tree.old) (IsOnWay way) → Through (T.meaning tree.old) (T.meaning tree.new) (IsOnWay way)) }
+    ensures removes { OfTold (T.meaning tree.old) (λ t. (way : Way) (number : ℕ) → way.project ≡ project.now
+        → IsPart way.journal.targets number target.now → IsOnWay way t → OnlyRemoved places.now.kept t (reading (T.meaning tree.new).disks.now)) }
+{
+    make_parents(alloc, tree, project, &target.path)?;
+    clear_kept(alloc, tree, places, target.gone)
+}
+
+/// Finishes a part: makes missing folders above its target, and moves it.
+fn finish_part<T: Tree>(
+    alloc: Global,
+    tree: &mut T,
+    project: &Path,
+    number: u64,
+    target: &Target,
+) -> Result<(), PartFault>
+    ensures writes_none { WritesNone (T.meaning tree.old) (T.meaning tree.new) (is_device_fault result) }
+    ensures through { OfTold (T.meaning tree.old) (λ t. IsWhole (T.meaning tree.old).disks.now → (way : Way)
+        → way.project ≡ project.now → IsPart way.journal.targets number target.now
+        → EachImage (T.meaning tree.old) (IsOnWay way) → Through (T.meaning tree.old) (T.meaning tree.new) (IsOnWay way)) }
+    ensures done { OnOk result (OfTold (T.meaning tree.old) (λ t. IsTargetPath target.now.path
+        → IsPartDone target.now.gone project.now number target.now (reading (T.meaning tree.new).disks.now))) }
+    ensures others { OnOk result (OfTold (T.meaning tree.old) (λ t. (way : Way) → way.project ≡ project.now → IsPart way.journal.targets number target.now
+        → IsOnWay way t → (j : ℕ) (other : Targets) → (number ≡ j → ⊥) → IsPart way.journal.targets j other
+        → IsPartDone other.gone project.now j other t → IsPartDone other.gone project.now j other (reading (T.meaning tree.new).disks.now))) }
+{
+    let places = places_of(alloc, project, number, target)?;
+    prepare_part(alloc, tree, project, target, &places)?;
+    match move_part(tree, &places, target.gone)? {
+        Did::Done => Ok(()),
+        Did::Misplaced => Err(PartFault::Vanished(places.target)),
+    }
+}
+
+/// Finishes all parts, in their order.
+pub(crate) fn finish_parts<T: Tree>(
+    alloc: Global,
+    tree: &mut T,
+    project: &Path,
+    targets: &[Target],
+) -> Result<(), PartFault>
+    ensures writes_none { WritesNone (T.meaning tree.old) (T.meaning tree.new) (is_device_fault result) }
+    ensures through { OfTold (T.meaning tree.old) (λ t. IsWhole (T.meaning tree.old).disks.now → (way : Way)
+        → way.project ≡ project.now → way.journal.targets ≡ targets.now
+        → EachImage (T.meaning tree.old) (IsOnWay way) → Through (T.meaning tree.old) (T.meaning tree.new) (IsOnWay way)) }
+    ensures done { OnOk result (OfTold (T.meaning tree.old) (λ t. IsWhole (T.meaning tree.old).disks.now → (way : Way)
+        → way.project ≡ project.now → way.journal.targets ≡ targets.now
+        → EachImage (T.meaning tree.old) (IsOnWay way) → AreAllDone project.now targets.now (reading (T.meaning tree.new).disks.now))) }
+{
+    'targets: for (number, target) in targets.iter().enumerate() {
+        finish_part(alloc, tree, project, number as u64, target)?;
+    }
+    Ok(())
+}

@@ -1,0 +1,144 @@
+//! Recovery: an install that a crash or a fault cut off is finished, or taken away.
+
+ghost use Rattle.std.specs.Prelude.{◌≡◌, ◌<◌, ◌^◌, List, ℕ, false, IfOk, OnOk, Err, None, Some, MatchOption, length};
+ghost use Rattle.std.specs.FinMap as map;
+ghost use Rattle.tree_dev.specs.Trees.{FileTree};
+ghost use Rattle.tree_dev.specs.Device.{OfTold, OnlyRead};
+ghost use Rattle.tree_dev.specs.Disk.{reading};
+ghost use Rattle.tree_dev.specs.Steady.{EachImage, Through};
+ghost use Rattle.tree_dev.specs.Projects.{journal_path, work_path};
+ghost use Rattle.tree_dev.specs.declared.entry.Entry.TheVariants as entries;
+ghost use Rattle.install_world.specs.InFlight.{Files, HasFiles, IsFinishedProject, IsInFlight, IsThere, NoJournal};
+ghost use Rattle.install_world.specs.JournalText.{IsBadJournal};
+ghost use Rattle.install_world.specs.Removals.{OnlyRemoved, WritesNone};
+ghost use Rattle.install_world.specs.declared.recovery_fault.RecoverFault.TheVariants as faults;
+ghost use Rattle.install_world.specs.declared.recovery_fault.Recovered.TheVariants as did;
+ghost use Rattle.install_world.specs.Recovery.{HasBadJournal, IsRecovered, ended_by, is_device_fault, recovered_in};
+
+use crate::ending::finish_journal;
+use crate::{RecoverFault, Recovered, read_journal, remove_folder};
+use path_name::{Path, Text};
+use std::alloc::Global;
+use tree_dev::{FILE_BYTES, Kind, LimitKind, ReadAnswer, Tree};
+
+/// The text of the file at a path; None where nothing is there.
+fn read_text<T: Tree>(alloc: Global, tree: &mut T, at: &Path) -> Result<Option<Text>, RecoverFault>
+    ensures only_read { OnlyRead (T.meaning tree.old) (T.meaning tree.new) (is_device_fault result) }
+    ensures text { IfOk result (λ text. OfTold (T.meaning tree.old) (λ t. MatchOption text (map.get t at.now ≡ None)
+        (λ text. (map.get t at.now ≡ Some (entries.File text)) × (length text < 2 ^ 64)))) }
+    ensures not_bad { (place : ℕ) → result ≡ Err (faults.BadJournal place) → ⊥ }
+{
+    match tree.read(alloc, at, FILE_BYTES)? {
+        ReadAnswer::Bytes(text) => Ok(Some(text)),
+        ReadAnswer::Absent => Ok(None),
+        ReadAnswer::NotFile => Err(RecoverFault::OtherEntry(at.copy(alloc)?)),
+        ReadAnswer::TooLong => Err(RecoverFault::Limit(LimitKind::FileBytes(at.copy(alloc)?))),
+    }
+}
+
+/// Takes an install away that was not committed. A barrier comes first, so that no crash brings a journal back.
+fn take_install_away<T: Tree>(
+    alloc: Global,
+    tree: &mut T,
+    work: &Path,
+) -> Result<Recovered, RecoverFault>
+    ensures writes_none { WritesNone (T.meaning tree.old) (T.meaning tree.new) (is_device_fault result) }
+    ensures through { OfTold (T.meaning tree.old) (λ t. (project : List (List ℕ)) (surroundings : FileTree) (old new : Files) → work.now ≡ work_path project
+        → NoJournal project t → EachImage (T.meaning tree.old) (IsInFlight project surroundings old new)
+        → Through (T.meaning tree.old) (T.meaning tree.new) (IsInFlight project surroundings old new)) }
+    ensures found { IfOk result (λ found. found ≡ did.Removed) }
+    ensures not_bad { (place : ℕ) → result ≡ Err (faults.BadJournal place) → ⊥ }
+    ensures left { OnOk result (OfTold (T.meaning tree.old) (λ t. EachImage (T.meaning tree.new) (OnlyRemoved work.now t))) }
+    ensures gone { OnOk result (OfTold (T.meaning tree.new) (λ t. map.get t work.now ≡ None)) }
+{
+    tree.barrier()?;
+    remove_folder(alloc, tree, work)?;
+    Ok(Recovered::Removed)
+}
+
+/// Finishes the install whose journal has this text.
+fn finish_text<T: Tree>(
+    alloc: Global,
+    tree: &mut T,
+    project: &Path,
+    work: &Path,
+    at: &Path,
+    text: &[u8],
+) -> Result<Recovered, RecoverFault>
+    ensures writes_none { WritesNone (T.meaning tree.old) (T.meaning tree.new) (is_device_fault result) }
+    ensures through { OfTold (T.meaning tree.old) (λ t. (surroundings : FileTree) (old new : Files) → work.now ≡ work_path project.now → at.now ≡ journal_path project.now
+        → map.get t at.now ≡ Some (entries.File text.now) → length text.now < 2 ^ 64 → EachImage (T.meaning tree.old) (IsInFlight project.now surroundings old new)
+        → Through (T.meaning tree.old) (T.meaning tree.new) (IsInFlight project.now surroundings old new)) }
+    ensures finished { OnOk result (OfTold (T.meaning tree.old) (λ t. (surroundings : FileTree) (old new files : Files) → work.now ≡ work_path project.now → at.now ≡ journal_path project.now
+        → map.get t at.now ≡ Some (entries.File text.now) → length text.now < 2 ^ 64 → EachImage (T.meaning tree.old) (IsInFlight project.now surroundings old new)
+        → IsFinishedProject project.now t files → EachImage (T.meaning tree.new) (IsRecovered project.now files))) }
+    ensures found { IfOk result (λ found. found ≡ did.Finished) }
+    ensures gone { OnOk result (OfTold (T.meaning tree.new) (λ t. map.get t work.now ≡ None)) }
+    ensures bad { (place : ℕ) → result ≡ Err (faults.BadJournal place) → IsBadJournal text.now place × OnlyRead (T.meaning tree.old) (T.meaning tree.new) false }
+{
+    let journal = read_journal(alloc, text)?;
+    tree.barrier()?;
+    finish_journal(alloc, tree, project, at, &journal)?;
+    remove_folder(alloc, tree, work)?;
+    Ok(Recovered::Finished)
+}
+
+/// Finishes or takes away the install whose `.install` is there.
+fn finish_claimed<T: Tree>(
+    alloc: Global,
+    tree: &mut T,
+    project: &Path,
+    work: &Path,
+) -> Result<Recovered, RecoverFault>
+    ensures writes_none { WritesNone (T.meaning tree.old) (T.meaning tree.new) (is_device_fault result) }
+    ensures through { OfTold (T.meaning tree.old) (λ t. (surroundings : FileTree) (old new : Files) → work.now ≡ work_path project.now
+        → EachImage (T.meaning tree.old) (IsInFlight project.now surroundings old new)
+        → Through (T.meaning tree.old) (T.meaning tree.new) (IsInFlight project.now surroundings old new)) }
+    ensures found { IfOk result (λ found. OfTold (T.meaning tree.old) (λ t. work.now ≡ work_path project.now → found ≡ ended_by (map.get t (journal_path project.now)))) }
+    ensures finished { OnOk result (OfTold (T.meaning tree.old) (λ t. (surroundings : FileTree) (old new files : Files) → work.now ≡ work_path project.now
+        → EachImage (T.meaning tree.old) (IsInFlight project.now surroundings old new) → IsFinishedProject project.now t files
+        → EachImage (T.meaning tree.new) (IsRecovered project.now files))) }
+    ensures gone { OnOk result (OfTold (T.meaning tree.new) (λ t. map.get t work.now ≡ None)) }
+    ensures bad { (place : ℕ) → result ≡ Err (faults.BadJournal place) → OnlyRead (T.meaning tree.old) (T.meaning tree.new) false
+        × OfTold (T.meaning tree.old) (λ t. work.now ≡ work_path project.now → HasBadJournal project.now t place) }
+{
+    let at = work.child(alloc, b"journal")?;
+    match read_text(alloc, tree, &at)? {
+        None => take_install_away(alloc, tree, work),
+        Some(text) => finish_text(alloc, tree, project, work, &at, text.as_slice()),
+    }
+}
+
+/// Finishes an install that was committed and cut off, or takes one away that was not committed. It can be stopped and run
+/// again at any moment. `NothingToDo`: there is no `.install`. `Removed`: no journal stood in it. `Finished`: the journal's job
+/// is done. `BadJournal(at)`: `.install/journal` is none, and nothing was changed. `OtherEntry(path)`: `.install` is no folder,
+/// the journal no file, or a folder that a part needs is there as another kind; the parts before are done then. `Limit`: the
+/// journal passes `FILE_BYTES`. `Vanished(path)`: what earlier calls showed is no longer there. `DeviceFault` comes only
+/// where the device's count of faults rose. It is run only while no install runs.
+pub fn finish_install<T: Tree>(
+    alloc: Global,
+    tree: &mut T,
+    project: &Path,
+) -> Result<Recovered, RecoverFault>
+    ensures writes_none { WritesNone (T.meaning tree.old) (T.meaning tree.new) (is_device_fault result) }
+    ensures through { OfTold (T.meaning tree.old) (λ t. (surroundings : FileTree) (old new : Files)
+        → EachImage (T.meaning tree.old) (IsInFlight project.now surroundings old new)
+        → Through (T.meaning tree.old) (T.meaning tree.new) (IsInFlight project.now surroundings old new)) }
+    ensures found { IfOk result (λ found. OfTold (T.meaning tree.old) (λ t. found ≡ recovered_in project.now t)) }
+    ensures finished { OnOk result (OfTold (T.meaning tree.old) (λ t. (surroundings : FileTree) (old new files : Files)
+        → EachImage (T.meaning tree.old) (IsInFlight project.now surroundings old new) → IsFinishedProject project.now t files
+        → HasFiles project.now (reading (T.meaning tree.new).disks.now) files)) }
+    ensures settled { OnOk result (OfTold (T.meaning tree.old) (λ t. IsThere t (work_path project.now) → (surroundings : FileTree) (old new files : Files)
+        → EachImage (T.meaning tree.old) (IsInFlight project.now surroundings old new) → IsFinishedProject project.now t files
+        → EachImage (T.meaning tree.new) (IsRecovered project.now files))) }
+    ensures gone { OnOk result (OfTold (T.meaning tree.new) (λ t. map.get t (work_path project.now) ≡ None)) }
+    ensures bad { (place : ℕ) → result ≡ Err (faults.BadJournal place) → OnlyRead (T.meaning tree.old) (T.meaning tree.new) false
+        × OfTold (T.meaning tree.old) (λ t. HasBadJournal project.now t place) }
+{
+    let work = project.child(alloc, b".install")?;
+    match tree.stat(&work)? {
+        Kind::Absent => Ok(Recovered::NothingToDo),
+        Kind::Folder => finish_claimed(alloc, tree, project, &work),
+        _ => Err(RecoverFault::OtherEntry(work)),
+    }
+}
