@@ -1,4 +1,5 @@
--- The keys of a manifest, as Composer's documentation spells them ("The composer.json schema", "Repositories", "Config").
+-- The keys of a manifest, as Composer's documentation spells them ("The composer.json schema", "Repositories", "Config"),
+-- and those of a lock and of installed.json, as Composer writes them.
 use Rattle.std.specs.Prelude.{ℕ, List, Option, codes}
 use Rattle.json_ordered.specs.JsonTree.{JsonTree}
 use Rattle.json_ordered.specs.JsonNames.{value_of}
@@ -40,6 +41,20 @@ key_text keys.VendorDir = codes "vendor-dir"
 key_text keys.Platform = codes "platform"
 key_text keys.OptimizeAutoloader = codes "optimize-autoloader"
 key_text keys.ClassmapAuthoritative = codes "classmap-authoritative"
+key_text keys.ContentHash = codes "content-hash"
+key_text keys.Packages = codes "packages"
+key_text keys.PackagesDev = codes "packages-dev"
+key_text keys.Aliases = codes "aliases"
+key_text keys.StabilityFlags = codes "stability-flags"
+key_text keys.PreferLowest = codes "prefer-lowest"
+key_text keys.PlatformDev = codes "platform-dev"
+key_text keys.PluginApiVersion = codes "plugin-api-version"
+key_text keys.Readme = codes "_readme"
+key_text keys.Dist = codes "dist"
+key_text keys.VersionNormalized = codes "version_normalized"
+key_text keys.InstallPath = codes "install-path"
+key_text keys.Dev = codes "dev"
+key_text keys.DevPackageNames = codes "dev-package-names"
 
 -- the pairs of an object
 abbrev pub Pairs : Type 0

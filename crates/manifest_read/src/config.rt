@@ -48,14 +48,9 @@ pub(crate) fn version(
     }
 }
 
-/// The truth value of a key, false where it is missing.
+/// The truth value of a key, false where it is missing. Refuses `BadField` where it is none.
 #[tactic(auto, unfolding(crate::specs::Settings::boolean_of))]
-pub(crate) fn switch(
-    alloc: Global,
-    at: &[u8],
-    pairs: &[(Name, Doc)],
-    key: Key,
-) -> Result<bool, FieldFault>
+pub fn switch(alloc: Global, at: &[u8], pairs: &[(Name, Doc)], key: Key) -> Result<bool, FieldFault>
     ensures { GivesValue OutOfMemory (boolean_of at.now (map pair_of pairs.now) key) result }
 {
     match value(pairs, key) {

@@ -7,6 +7,7 @@ mod config;
 mod copies;
 mod document;
 mod fault;
+pub mod fields;
 mod key;
 mod laws;
 mod links;

@@ -29,7 +29,7 @@ fn push_token(pointer: &mut Vec<u8>, token: &[u8]) -> Result<(), AllocError>
 
 /// The pointer of the value that has a name in the object, or a number in the array, at a pointer.
 #[tactic(auto, unfolding(crate::specs::Pointers::below))]
-pub(crate) fn below(alloc: Global, at: &[u8], token: &[u8]) -> Result<Vec<u8>, AllocError>
+pub fn below(alloc: Global, at: &[u8], token: &[u8]) -> Result<Vec<u8>, AllocError>
     ensures { IfOk result (λ pointer. pointer.items ≡ below at.now token.now) }
 {
     let mut pointer = Vec::with_capacity(alloc, at.len().saturating_add(token.len()))?;
@@ -40,7 +40,7 @@ pub(crate) fn below(alloc: Global, at: &[u8], token: &[u8]) -> Result<Vec<u8>, A
 }
 
 /// The value there has another form than is asked for.
-pub(crate) fn bad_field(alloc: Global, at: &[u8], token: &[u8]) -> FieldFault
+pub fn bad_field(alloc: Global, at: &[u8], token: &[u8]) -> FieldFault
     ensures { result ≢ OutOfMemory → result ≡ BadField (below at.now token.now) }
 {
     match below(alloc, at, token) {
@@ -50,7 +50,7 @@ pub(crate) fn bad_field(alloc: Global, at: &[u8], token: &[u8]) -> FieldFault
 }
 
 /// What is written there isn't offered.
-pub(crate) fn not_offered(alloc: Global, at: &[u8], token: &[u8]) -> FieldFault
+pub fn not_offered(alloc: Global, at: &[u8], token: &[u8]) -> FieldFault
     ensures { result ≢ OutOfMemory → result ≡ NotOffered (below at.now token.now) }
 {
     match below(alloc, at, token) {
@@ -60,7 +60,7 @@ pub(crate) fn not_offered(alloc: Global, at: &[u8], token: &[u8]) -> FieldFault
 }
 
 /// The value at a pointer itself has another form than is asked for.
-pub(crate) fn bad_value(alloc: Global, at: &[u8]) -> FieldFault
+pub fn bad_value(alloc: Global, at: &[u8]) -> FieldFault
     ensures { result ≢ OutOfMemory → result ≡ BadField at.now }
 {
     match Vec::from_slice(alloc, at) {

@@ -22,9 +22,9 @@ use json_ordered::Doc;
 use path_name::{FolderRef, Items, Name, PathFault};
 use std::alloc::Global;
 
-/// The folder that a url names.
+/// The folder that a url names. Refuses `BadField` where the url is not UTF-8 or has a NUL.
 #[tactic(auto, unfolding(crate::specs::Repositories::folder_at))]
-fn folder(alloc: Global, at: &[u8], token: &[u8], text: &[u8]) -> Result<FolderRef, FieldFault>
+pub fn folder(alloc: Global, at: &[u8], token: &[u8], text: &[u8]) -> Result<FolderRef, FieldFault>
     ensures { GivesValue OutOfMemory (folder_at (below at.now token.now) text.now) result }
 {
     match FolderRef::read(alloc, text) {
@@ -35,7 +35,8 @@ fn folder(alloc: Global, at: &[u8], token: &[u8], text: &[u8]) -> Result<FolderR
     }
 }
 
-fn begins_with_slash(text: &[u8]) -> bool
+/// Whether a url is counted from the root of the file system.
+pub fn begins_with_slash(text: &[u8]) -> bool
     ensures { result ≡ begins_with_slash text.now }
 {
     match text {
@@ -130,9 +131,9 @@ fn is_path_type(text: Option<&[u8]>) -> bool
     }
 }
 
-/// That an entry's type is `path`.
+/// That an entry's type is `path`. Refuses `BadField` where there is none, and `NotOffered` where it is anything else.
 #[tactic(auto, unfolding(crate::specs::Repositories::path_type_of))]
-fn path_type(alloc: Global, at: &[u8], pairs: &[(Name, Doc)]) -> Result<(), FieldFault>
+pub fn path_type(alloc: Global, at: &[u8], pairs: &[(Name, Doc)]) -> Result<(), FieldFault>
     ensures { GivesValue OutOfMemory (path_type_of at.now (map pair_of pairs.now)) result }
 {
     let token = Key::Type.text();

@@ -59,9 +59,10 @@ fn grade(alloc: Global, at: &[u8], token: &[u8], doc: &Doc) -> Result<Grade, Fie
     }
 }
 
-/// The grade of `minimum-stability`, `Stable` where it is missing.
+/// The grade of `minimum-stability`, `Stable` where it is missing. Refuses `BadField` where it is no text that names
+/// one.
 #[tactic(auto, unfolding(crate::specs::Settings::minimum_of))]
-fn minimum(alloc: Global, at: &[u8], pairs: &[(Name, Doc)]) -> Result<Grade, FieldFault>
+pub fn minimum(alloc: Global, at: &[u8], pairs: &[(Name, Doc)]) -> Result<Grade, FieldFault>
     ensures { GivesValue OutOfMemory (minimum_of at.now (map pair_of pairs.now)) result }
 {
     match value(pairs, Key::MinimumStability) {

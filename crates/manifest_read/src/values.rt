@@ -32,14 +32,14 @@ fn value_named<'a>(pairs: &'a [(Name, Doc)], name: &[u8]) -> Option<&'a Doc>
 
 /// The value of a key.
 #[tactic(auto, unfolding(crate::specs::Keys::value_at))]
-pub(crate) fn value<'a>(pairs: &'a [(Name, Doc)], key: Key) -> Option<&'a Doc>
+pub fn value<'a>(pairs: &'a [(Name, Doc)], key: Key) -> Option<&'a Doc>
     ensures { option_map (λ doc. tree_of doc.now) result ≡ value_at (map pair_of pairs.now) key }
 {
     value_named(pairs, key.text())
 }
 
 /// The items of an array.
-pub(crate) fn items(doc: &Doc) -> Option<&[Doc]>
+pub fn items(doc: &Doc) -> Option<&[Doc]>
     ensures { MatchOption result (items_in (tree_of doc.now) ≡ None)
         (λ items. items_in (tree_of doc.now) ≡ Some (map tree_of items.now)) }
 {
@@ -47,7 +47,7 @@ pub(crate) fn items(doc: &Doc) -> Option<&[Doc]>
 }
 
 /// The pairs of an object. An empty array is taken for an empty object.
-pub(crate) fn pairs(doc: &Doc) -> Option<&[(Name, Doc)]>
+pub fn pairs(doc: &Doc) -> Option<&[(Name, Doc)]>
     ensures { MatchOption result (pairs_in (tree_of doc.now) ≡ None)
         (λ pairs. pairs_in (tree_of doc.now) ≡ Some (map pair_of pairs.now)) }
 {
@@ -70,7 +70,7 @@ fn empty_pairs(doc: &Doc) -> Option<&[(Name, Doc)]>
 
 /// The bytes of a text.
 #[tactic(auto, unfolding(crate::specs::Values::text_at))]
-pub(crate) fn text<'a>(
+pub fn text<'a>(
     alloc: Global,
     at: &[u8],
     token: &[u8],
@@ -85,12 +85,7 @@ pub(crate) fn text<'a>(
 }
 
 /// A copy of a text.
-pub(crate) fn owned_text(
-    alloc: Global,
-    at: &[u8],
-    token: &[u8],
-    doc: &Doc,
-) -> Result<Text, FieldFault>
+pub fn owned_text(alloc: Global, at: &[u8], token: &[u8], doc: &Doc) -> Result<Text, FieldFault>
     ensures { Gives (λ text. text) OutOfMemory (text_at (below at.now token.now) (tree_of doc.now)) result }
 {
     let text = text(alloc, at, token, doc)?;
@@ -99,7 +94,7 @@ pub(crate) fn owned_text(
 
 /// A truth value.
 #[tactic(auto, unfolding(crate::specs::Values::boolean_at))]
-pub(crate) fn boolean(alloc: Global, at: &[u8], token: &[u8], doc: &Doc) -> Result<bool, FieldFault>
+pub fn boolean(alloc: Global, at: &[u8], token: &[u8], doc: &Doc) -> Result<bool, FieldFault>
     ensures { Gives (λ value. value) OutOfMemory (boolean_at (below at.now token.now) (tree_of doc.now)) result }
 {
     match doc.as_bool() {
@@ -110,7 +105,7 @@ pub(crate) fn boolean(alloc: Global, at: &[u8], token: &[u8], doc: &Doc) -> Resu
 
 /// The items of an array.
 #[tactic(auto, unfolding(crate::specs::Values::list_at))]
-pub(crate) fn list<'a>(alloc: Global, at: &[u8], doc: &'a Doc) -> Result<&'a [Doc], FieldFault>
+pub fn list<'a>(alloc: Global, at: &[u8], doc: &'a Doc) -> Result<&'a [Doc], FieldFault>
     ensures { Gives (λ items. map tree_of items.now) OutOfMemory (list_at at.now (tree_of doc.now)) result }
 {
     match items(doc) {
@@ -121,11 +116,7 @@ pub(crate) fn list<'a>(alloc: Global, at: &[u8], doc: &'a Doc) -> Result<&'a [Do
 
 /// The pairs of an object.
 #[tactic(auto, unfolding(crate::specs::Values::object_at))]
-pub(crate) fn object<'a>(
-    alloc: Global,
-    at: &[u8],
-    doc: &'a Doc,
-) -> Result<&'a [(Name, Doc)], FieldFault>
+pub fn object<'a>(alloc: Global, at: &[u8], doc: &'a Doc) -> Result<&'a [(Name, Doc)], FieldFault>
     ensures { Gives (λ pairs. map pair_of pairs.now) OutOfMemory (object_at at.now (tree_of doc.now)) result }
 {
     match pairs(doc) {
