@@ -1,0 +1,4 @@
+pub mod Behind
+pub mod Candidates
+pub mod Views
+pub mod FormedEntries

@@ -1,0 +1,7 @@
+use Rattle.std.proofs.Common.{◌≡◌, map, take}
+use Rattle.json_ordered.specs.Docs.{tree_of}
+use Rattle.lock_file.specs.InstalledText.{installed_tree}
+use Rattle.lock_file.proofs.installed_printing.entries_doc.Given as goal
+
+abbrev pub invariant-loop-entry : goal.invariant-loop-entry
+invariant-loop-entry l = map tree_of l.docs.items ≡ map (λ entry. installed_tree entry.now) (take l.entry-index l.entries)
