@@ -1,4 +1,4 @@
-use Rattle.std.proofs.Common.{◌≡◌, ℕ, List, Bool, true, false, Option, Some, None, sym, ap, ◌∙◌, ◌++◌}
+use Rattle.std.proofs.Common.{◌≡◌, ℕ, List, Bool, true, false, None}
 use Rattle.std.specs.Prelude.{IsTrue, not}
 use Rattle.path_name.specs.Paths.{BeginsWith}
 use Rattle.tree_dev.specs.Trees.{behind}
