@@ -53,8 +53,8 @@ fn kept_pairs<'a>(
     let mut some = Vec::new(alloc);
     for pair in pairs {
         let name = SmallName::of(pair.0.as_slice());
-        if let Some(pair) = last.remove(&name) {
-            some.push(pair)?;
+        if let Some(latest) = last.remove(&name) {
+            some.push(latest)?;
         }
     }
     Ok(some)

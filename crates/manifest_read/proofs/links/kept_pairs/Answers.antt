@@ -20,7 +20,7 @@ loop-pair-preserved c =
     let added : map (λ pair. pair_of pair.now) c.match-remove.some.items ≡ map (λ pair. pair_of pair.now) c.loop-pair.some.items
     ++ option_to_list (option_map (λ pair. pair_of pair.now) (get byte_cmp c.loop-pair.last k)) = elim c.match-remove.branch [
       | in-Some+in_ok-push w ↦ ap (λ s. map (λ pair. pair_of pair.now) s.items) w.some-is ∙ ap (map (λ pair. pair_of pair.now)) w.in_ok-push.ensures.items
-          ∙ map_push (λ pair. pair_of pair.now) c.loop-pair.some.items w.in-Some.pair
+          ∙ map_push (λ pair. pair_of pair.now) c.loop-pair.some.items w.in-Some.latest
           ∙ ap (λ o. map (λ pair. pair_of pair.now) c.loop-pair.some.items ++ option_to_list (option_map (λ pair. pair_of pair.now) o)) (sym w.in-Some.is ∙ c.remove.ensures.value)
       | in_default w ↦ ap (λ s. map (λ pair. pair_of pair.now) s.items) w.some-is ∙ sym (append-nil (map (λ pair. pair_of pair.now) c.loop-pair.some.items))
           ∙ ap (λ o. map (λ pair. pair_of pair.now) c.loop-pair.some.items ++ option_to_list (option_map (λ pair. pair_of pair.now) o)) (sym w.in_default.is ∙ c.remove.ensures.value)
