@@ -1,0 +1,15 @@
+pub mod Lists
+pub mod SetMembers
+pub mod KeptRules
+pub mod Subsets
+pub mod FirstChoices
+pub mod Plans
+pub mod PreferenceOrder
+pub mod LargerSets
+pub mod NewChoices
+pub mod Placing
+pub mod Marked
+pub mod Offering
+pub mod Rows
+pub mod Owners
+pub mod Breaking

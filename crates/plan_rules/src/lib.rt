@@ -1,0 +1,22 @@
+//! What a valid plan is, its check, and the plan of first choices, by the rules of Composer's documentation ("The
+//! composer.json schema", "Package links"; "Repositories", "Path").
+#![tactic(auto)]
+
+mod by_name;
+mod checking;
+mod facts;
+mod index;
+mod laws;
+mod members;
+mod offers;
+mod platform;
+mod rule;
+
+pub use checking::check;
+pub use index::Index;
+pub use laws::{dead_ends, first_choices, larger_sets, new_choices, preferences, smaller_sets};
+pub use offers::{Offer, Standing};
+pub use rule::{Rule, Selection, Verdict};
+
+#[cfg(test)]
+mod tests;
