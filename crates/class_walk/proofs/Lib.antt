@@ -1,0 +1,14 @@
+pub mod CleanTexts
+pub mod States
+pub mod Cuttings
+pub mod ExcludedFiles
+pub mod Blocks
+pub mod TailsIn
+pub mod ReachedPaths
+pub mod Steps
+pub mod ReadAnswers
+pub mod Lists
+pub mod Skipped
+pub mod Looked
+pub mod WalkedNames
+pub mod WalkedJobs

@@ -1,0 +1,6 @@
+pub mod Patterns
+pub mod Matching
+pub mod Reached
+pub mod Walks
+pub mod Faults
+pub mod Searches
