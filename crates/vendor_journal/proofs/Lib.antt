@@ -1,0 +1,5 @@
+mod CallRules
+mod FaultRules
+mod HoldRules
+mod JournalPlaced
+mod PreparedParts

@@ -1,0 +1,75 @@
+use Rattle.std.proofs.Common.{sym, subst}
+use Rattle.std.proofs.lemmas.Result.{err_from_is_err_and}
+use Rattle.tree_dev.proofs.Stretches.{through_ends}
+use Rattle.install_world.specs.InFlight.{AreAllDone}
+use Rattle.install_world.specs.Moving.{IsOnWay}
+use Rattle.install_world.proofs.JournalEnds.{nothing_more, way_then}
+use Rattle.install_world.proofs.PartDone.{told_still}
+use Rattle.install_world.proofs.PartFinish.{way_reads}
+use Rattle.install_world.proofs.RemovalRules.{writes_none_on}
+use Rattle.vendor_journal.specs.Prepared.{ArePrepared}
+use Rattle.vendor_journal.proofs.commits.finish.Goals as goal
+
+pub returns-in_err-move_parts-clause-writes_none : goal.returns-in_err-move_parts-clause-writes_none
+returns-in_err-move_parts-clause-writes_none g c =
+    let p = err_from_is_err_and c.from_residual.result c.from_residual.ensures.1 in rw (p.1, p.2) c.in_err-move_parts.ensures.writes_none
+
+pub returns-in_err-move_parts-clause-through : goal.returns-in_err-move_parts-clause-through
+returns-in_err-move_parts-clause-through g c = λ t told whole way is each.
+    way_then way _ _ _ (c.move_parts.ensures.through t told whole way (subst (ArePrepared way.project way.journal.targets) (sym c.as_slice.ensures.value) is.parts_are) each)
+    (λ now. nothing_more way _ now)
+
+pub returns-in_err-remove_journal-clause-writes_none : goal.returns-in_err-remove_journal-clause-writes_none
+returns-in_err-remove_journal-clause-writes_none g c =
+    let p = err_from_is_err_and c.from_residual-in_err-remove_journal.result c.from_residual-in_err-remove_journal.ensures.1 in
+    rw (p.1, p.2) (writes_none_on _ _ _ _ c.in_err-remove_journal.ensures.writes_none c.in_ok-move_parts.ensures.writes_none)
+
+pub returns-in_err-remove_journal-clause-through : goal.returns-in_err-remove_journal-clause-through
+returns-in_err-remove_journal-clause-through g c = λ t told whole way is each.
+    let first = g.T.Tree.meaning c.args.tree.now in
+    let second = g.T.Tree.meaning c.move_parts.new.tree in
+    let parts = subst (ArePrepared way.project way.journal.targets) (sym c.as_slice.ensures.value) is.parts_are in
+    let now = told_still first second t c.move_parts.ensures.writes_none.tells told in
+    let disk = g.met.T.Tree.tells_its_disk c.move_parts.new.tree now.0 now.1 in
+    let done = subst (AreAllDone way.project way.journal.targets) (sym disk.reads) (c.in_ok-move_parts.ensures.done t told whole way parts each) in
+    way_then way first second _ (c.move_parts.ensures.through t told whole way parts each)
+    (λ each_now. c.remove_journal.ensures.through now.0 now.1 (c.move_parts.ensures.writes_none.whole whole) way is.at_is done each_now)
+
+pub returns-in-Done-clause-writes_none : goal.returns-in-Done-clause-writes_none
+returns-in-Done-clause-writes_none g c = writes_none_on _ _ _ _ c.in_ok-remove_journal.ensures.writes_none c.in_ok-move_parts.ensures.writes_none
+
+pub returns-in-Done-clause-through : goal.returns-in-Done-clause-through
+returns-in-Done-clause-through g c = λ t told whole way is each.
+    let first = g.T.Tree.meaning c.args.tree.now in
+    let second = g.T.Tree.meaning c.move_parts.new.tree in
+    let parts = subst (ArePrepared way.project way.journal.targets) (sym c.as_slice.ensures.value) is.parts_are in
+    let now = told_still first second t c.move_parts.ensures.writes_none.tells told in
+    let disk = g.met.T.Tree.tells_its_disk c.move_parts.new.tree now.0 now.1 in
+    let done = subst (AreAllDone way.project way.journal.targets) (sym disk.reads) (c.in_ok-move_parts.ensures.done t told whole way parts each) in
+    way_then way first second _ (c.move_parts.ensures.through t told whole way parts each)
+    (λ each_now. c.remove_journal.ensures.through now.0 now.1 (c.move_parts.ensures.writes_none.whole whole) way is.at_is done each_now)
+
+pub returns-in-Done-clause-finished : goal.returns-in-Done-clause-finished
+returns-in-Done-clause-finished g c = λ t told whole way is each.
+    let first = g.T.Tree.meaning c.args.tree.now in
+    let second = g.T.Tree.meaning c.move_parts.new.tree in
+    let parts = subst (ArePrepared way.project way.journal.targets) (sym c.as_slice.ensures.value) is.parts_are in
+    let now = told_still first second t c.move_parts.ensures.writes_none.tells told in
+    let disk = g.met.T.Tree.tells_its_disk c.move_parts.new.tree now.0 now.1 in
+    let done = subst (AreAllDone way.project way.journal.targets) (sym disk.reads) (c.in_ok-move_parts.ensures.done t told whole way parts each) in
+    c.in_ok-remove_journal.ensures.settled c.in-Done.is now.0 now.1 way is.at_is done
+    (way_reads way second now.0 disk (through_ends (IsOnWay way) first second (c.move_parts.ensures.through t told whole way parts each)))
+
+pub returns-in-Misplaced-clause-writes_none : goal.returns-in-Misplaced-clause-writes_none
+returns-in-Misplaced-clause-writes_none g c = writes_none_on _ _ _ _ c.in_ok-remove_journal.ensures.writes_none c.in_ok-move_parts.ensures.writes_none
+
+pub returns-in-Misplaced-clause-through : goal.returns-in-Misplaced-clause-through
+returns-in-Misplaced-clause-through g c = λ t told whole way is each.
+    let first = g.T.Tree.meaning c.args.tree.now in
+    let second = g.T.Tree.meaning c.move_parts.new.tree in
+    let parts = subst (ArePrepared way.project way.journal.targets) (sym c.as_slice.ensures.value) is.parts_are in
+    let now = told_still first second t c.move_parts.ensures.writes_none.tells told in
+    let disk = g.met.T.Tree.tells_its_disk c.move_parts.new.tree now.0 now.1 in
+    let done = subst (AreAllDone way.project way.journal.targets) (sym disk.reads) (c.in_ok-move_parts.ensures.done t told whole way parts each) in
+    way_then way first second _ (c.move_parts.ensures.through t told whole way parts each)
+    (λ each_now. c.remove_journal.ensures.through now.0 now.1 (c.move_parts.ensures.writes_none.whole whole) way is.at_is done each_now)

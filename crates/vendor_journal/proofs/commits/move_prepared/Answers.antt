@@ -1,0 +1,26 @@
+use Rattle.std.proofs.Common.{sym, subst}
+use Rattle.std.proofs.lemmas.Result.{err_from_is_err_and}
+use Rattle.tree_dev.specs.Disk.{reading}
+use Rattle.install_world.specs.InFlight.{IsPartDone}
+use Rattle.vendor_journal.proofs.commits.move_prepared.Goals as goal
+
+pub returns-in_err-move_part-clause-writes_none : goal.returns-in_err-move_part-clause-writes_none
+returns-in_err-move_part-clause-writes_none g c =
+    let p = err_from_is_err_and c.from_residual.result c.from_residual.ensures.1 in rw (p.1, p.2) c.in_err-move_part.ensures.writes_none
+
+pub returns-in_err-move_part-clause-through : goal.returns-in_err-move_part-clause-through
+returns-in_err-move_part-clause-through g c = λ t told whole way number target is part each.
+    c.move_part.ensures.through t told whole way number target is.places part (sym is.mark) each
+
+pub returns-in-Done-clause-through : goal.returns-in-Done-clause-through
+returns-in-Done-clause-through g c = λ t told whole way number target is part each.
+    c.move_part.ensures.through t told whole way number target is.places part (sym is.mark) each
+
+pub returns-in-Done-clause-done : goal.returns-in-Done-clause-done
+returns-in-Done-clause-done g c = λ t told project number target is.
+    subst (λ gone. IsPartDone gone project number target (reading (g.T.Tree.meaning c.move_part.new.tree).disks.now)) is.mark
+    (c.in_ok-move_part.ensures.done c.in-Done.is t told project number target is.places)
+
+pub returns-in-Misplaced-clause-through : goal.returns-in-Misplaced-clause-through
+returns-in-Misplaced-clause-through g c = λ t told whole way number target is part each.
+    c.move_part.ensures.through t told whole way number target is.places part (sym is.mark) each
