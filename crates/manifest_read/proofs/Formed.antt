@@ -55,6 +55,7 @@ use Rattle.manifest_read.specs.Manifests.{dev_links_of, dev_autoload_of, manifes
 use Rattle.manifest_read.specs.WellFormed.{IsLink, HaveDistinctNames, IsPathText, IsPrefixDirs, IsAutoload, IsNameOf, IsMember, IsPackage, IsPlatformRow, IsRepository, IsManifest}
 use Rattle.manifest_read.proofs.Steps.{Answers, same_value, both, passed, barred, there, none_missing, all_read, each_map, all_there}
 use Rattle.manifest_read.proofs.Distinct.{small, kept_distinct}
+pub use Rattle.manifest_read.proofs.Steps.{if_given}
 
 -- ---- links
 

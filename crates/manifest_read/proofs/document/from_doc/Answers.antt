@@ -3,8 +3,7 @@ use Rattle.json_ordered.specs.Docs.{tree_of, pair_of}
 use Rattle.manifest_read.specs.Manifests.{manifest_from}
 use Rattle.manifest_read.specs.WellFormed.{IsManifest}
 use Rattle.manifest_read.specs.Writable.{IsWritableManifest}
-use Rattle.manifest_read.proofs.Steps.{if_given}
-use Rattle.manifest_read.proofs.Formed.{pairs_are_formed}
+use Rattle.manifest_read.proofs.Formed.{if_given, pairs_are_formed}
 use Rattle.manifest_read.proofs.Written.{object_written, manifest_written_from}
 use Rattle.manifest_read.proofs.document.from_doc.Goals as goal
 

@@ -3,8 +3,7 @@ use Rattle.json_ordered.specs.Docs.{tree_of, pair_of}
 use Rattle.manifest_read.specs.Packages.{package_entry_from}
 use Rattle.manifest_read.specs.WellFormed.{IsMember}
 use Rattle.manifest_read.specs.Writable.{IsWritablePackage}
-use Rattle.manifest_read.proofs.Steps.{if_given}
-use Rattle.manifest_read.proofs.Formed.{entry_package_formed}
+use Rattle.manifest_read.proofs.Formed.{if_given, entry_package_formed}
 use Rattle.manifest_read.proofs.Written.{object_written, entry_written_from}
 use Rattle.manifest_read.proofs.package.package_from_doc.Goals as goal
 
