@@ -1,11 +1,14 @@
 """Times the program of bench/php.sh over texts that are made to be slow, each in two sizes.
 
 Usage: python3 bench/php_slow.py PROGRAM. Prints MB/s of the cut, of the names by a cut of the whole text, and of the
-names, at 4 MB and at 16 MB, and the least of all.
+names, at 4 MB and at 16 MB, and the least of each. The first texts are one piece again and again; the last ones draw from
+some pieces at random, so that a processor can't foretell what comes next.
 """
+import random
 import subprocess
 import sys
 
+SIZES = (4 << 20, 16 << 20)
 CODE = '<?php '
 TEXTS = [
     ('quotes in nested code', CODE, '"{$'),
@@ -68,6 +71,42 @@ TEXTS = [
     ('ends of words', CODE, 'ss '),
     ('ends of words in a comment', CODE + 'class A{}/*', 'ce '),
 ]
+MIXED = [
+    ('signs', CODE, ['<', '$', '?', '-', '\\', '#[', '/;', ':', '=']),
+    ('attributes and backslashes', CODE, ['#[', '\\']),
+    ('signs, strings and numbers', CODE, ['$', '{', '``', '\n', '<<<', '1', '#[']),
+    ('slashes and question marks', CODE, ['/;', '?', '<<<']),
+    ('signs and strings', CODE, ["''", '$', '\\']),
+    ('names and signs', CODE, ['\\a', ' ', '?-', '"\\""', 'a', '-', '\\']),
+    ('empty strings', CODE, ["''", '""', '``']),
+    ('strings and comments', CODE, ["'a'", '#\n', '12', "''", '""', '(', '  ', ':']),
+    ('blanks and names', CODE, [' ;', '  ;', '   ;', ';', 'a ', 'ab ', 'abc ', 'abcdef ']),
+    ('half heredoc openings', CODE, ['<<< ', '<<<;', "<<<'", '<<<a;', '<', '<<', '<<<"a;', '<<<"a" ']),
+    ('heredocs', CODE, ['<<<A\nA\n', '<<<A\n A;', '<<<"A"\nA;', "<<<'A'\nA;", '<<<A\n\nA;', '<<<A;\n']),
+    ('bytes of a heredoc', CODE + '<<<A\n', ['A', 'a', '$', '\r', '{$a}', '\n B', '\\$', '\\\n']),
+    ('lines of a nowdoc', CODE + "<<<'A'\n", ['\n', '\n A1', '\r', 'a', '\nB', '\nA1', 'aaaa\n']),
+    ('nested code in double quotes', CODE + '"', ['{$}', '${}', '{$a}', '$', 'a', '\\"', '{$"{$}"}']),
+    ('signs in nested code', CODE + '"{$', ['<', '/;', '#[', '{}', 'a', "''"]),
+    ('strings in nested code', CODE + '"{$', ['\n', ' ', '``', '\\', '"$"']),
+    ('tags', '', ['<?php ?>', '<?=?>', '<?PHP\n?>', '<?=;?>', '<?php a?>', 'a<?=?>']),
+    ('half tags', '', ['<', '<?', '<?ph', '<?php', 'a', '<?php ?>', '<?=?>', 'aaa']),
+    ('declarations', CODE, ['class A{}', 'enum B:int{}', 'interface C{}', 'trait D{}', 'namespace E;', 'class ', '::class;']),
+]
+DRAWN = random.Random(1)
+
+
+def mixed(before, pieces, size):
+    """So many bytes behind `before`, of pieces in an order that is drawn."""
+    shortest = min(map(len, pieces))
+    return before + ''.join(DRAWN.choices(pieces, k=size // shortest))[:size]
+
+
+def texts():
+    """Each text's name, and the text at 4 MB and at 16 MB."""
+    for name, before, piece in TEXTS:
+        yield name, [before + piece * (size // len(piece)) for size in SIZES]
+    for name, before, pieces in MIXED:
+        yield name + ', mixed', [mixed(before, pieces, size) for size in SIZES]
 
 
 def speeds(program, text):
@@ -78,14 +117,12 @@ def speeds(program, text):
 
 
 def main():
-    worst = 1 << 30
-    for name, before, piece in TEXTS:
-        row = []
-        for size in (4 << 20, 16 << 20):
-            row += speeds(sys.argv[1], (before + piece * (size // len(piece))).encode())
-        worst = min(worst, *row)
-        print('%-32s' % name, ' '.join('%6d' % speed for speed in row), flush=True)
-    print('slowest', worst, 'MB/s')
+    least = [1 << 30] * 3
+    for name, both in texts():
+        row = [speeds(sys.argv[1], text.encode()) for text in both]
+        least = [min(some) for some in zip(least, *row)]
+        print('%-36s' % name, ' '.join('%6d' % speed for speed in row[0] + row[1]), flush=True)
+    print('slowest cut, names by the whole cut, and names:', *least, 'MB/s')
 
 
 main()

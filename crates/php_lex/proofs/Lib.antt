@@ -8,3 +8,4 @@ pub mod Plains
 pub mod OpenElements
 pub mod Wholes
 pub mod OneCut
+pub mod LoneSigns

@@ -1,5 +1,7 @@
 -- An opening behind so many bytes more.
-use Rattle.std.proofs.Common.{◌≡◌, ℕ, ◌+◌, ◌-◌, ◌<◌, ◌≤◌, Bool, true, false, ◌&&◌, ◌==◌, List, [], ◌∷◌, length, take, drop, Option, Some, None, cond, refl, sym, ap, ◌∙◌, arith}
+use Rattle.std.proofs.Common.{◌≡◌, ℕ, ◌+◌, ◌-◌, ◌<◌, ◌≤◌, Bool, true, false, ◌&&◌, ◌==◌, List, [], ◌∷◌, length, take, drop, Option, Some, None, cond, refl, sym, ap, subst, ◌∙◌, arith}
+use Rattle.std.specs.Prelude.{not}
+use Rattle.std.proofs.lemmas.Bool.{eqb-true}
 use Rattle.path_name.specs.Bytes.{starts_identifier, continues_identifier}
 use Rattle.php_lex.specs.Places.{has_first, run_of, after_run, is_space, is_line_end}
 use Rattle.std.proofs.lemmas.List.{drop-drop, length-drop}
@@ -68,3 +70,13 @@ heredoc_yes text h = rw h refl
 
 pub heredoc_no : (text : List ℕ) → opens_heredoc text ≡ false → heredoc text ≡ None
 heredoc_no text h = rw h refl
+
+-- behind `<<<` and a further `<` stands no label
+less_label : (text : List ℕ) → has_first (λ b. b == 60) text ≡ true → label (after_run is_space text) ≡ None
+less_label [] h = absurd cc
+less_label (b ∷ t) h = subst (λ (x : ℕ). label (after_run is_space (x ∷ t)) ≡ None) (sym (eqb-true b 60 h)) refl
+
+pub no_heredoc : (text : List ℕ) (a b : Bool) → a ≡ opens_heredoc text → b ≡ has_first (λ x. x == 60) (drop 3 text) → a && not b ≡ false → heredoc text ≡ None
+no_heredoc text false b e f h = heredoc_no text (sym e)
+no_heredoc text true false e f h = absurd cc
+no_heredoc text true true e f h = heredoc_yes text (sym e) ∙ less_label (drop 3 text) (sym f)

@@ -1,5 +1,5 @@
 -- The pieces of each kind of element, by the byte that stands first.
-use Rattle.std.proofs.Common.{◌≡◌, ◌≢◌, ℕ, suc, ◌+◌, ◌<◌, ◌≤◌, Bool, true, false, ◌&&◌, ◌||◌, ◌==◌, ◌⊎◌, List, [], ◌∷◌, length, get_or, drop, Option, Some, None, refl, sym, ap, ◌∙◌, inl, inr, arith}
+use Rattle.std.proofs.Common.{◌≡◌, ◌≢◌, ℕ, suc, ◌+◌, ◌<◌, ◌≤◌, Bool, true, false, ◌&&◌, ◌||◌, ◌==◌, ◌⊎◌, List, [], ◌∷◌, length, get_or, drop, Option, Some, None, refl, sym, ap, subst, ◌∙◌, inl, inr, arith}
 use Rattle.std.proofs.lemmas.Bool.{eqb-true}
 use Rattle.std.proofs.lemmas.Bool.Decides.{nat_tests}
 use Rattle.std.proofs.lemmas.List.{drop_more, drop_all, drop-drop}
@@ -8,7 +8,8 @@ use Rattle.path_name.specs.Bytes.{continues_identifier}
 use Rattle.memchr.specs.Find.{is_byte2, is_byte3}
 use Rattle.php_lex.specs.Places.{has_first, has_word_at, begins_with, after_run, is_space, is_line_end, SkipsTo}
 use Rattle.php_lex.specs.Comments.{comment}
-use Rattle.php_lex.specs.Quotes.{Element, Single, Double, Nowdoc, Heredoc, Nested, Opened, quoted, closing_line, closing}
+use Rattle.php_lex.specs.Quotes.{Element, Single, Double, Nowdoc, Heredoc, Nested, Opened, heredoc, quoted, closing_line, closing}
+use Rattle.php_lex.specs.Marks.{can_open}
 use Rattle.php_lex.specs.Elements.{Piece, Close, Plain, Child, opens_code, closed_or, heredoc_piece, comment_or, quoted_or, brace_piece, piece_in}
 use Rattle.php_lex.specs.Pieces.{opens_code_at, SameEnd}
 use Rattle.php_lex.proofs.Ends.{same_trans, same_plain, same_front}
@@ -309,6 +310,47 @@ nested_close (b ∷ t) h q e f = nested_brace b t h q ∙ rw (e, f) refl
 pub nested_passes : (text : List ℕ) → 0 < length text → comment text ≡ None → quoted text ≡ None → has_first (λ b. b == 123) text ≡ false → has_first (λ b. b == 125) text ≡ false → piece_in Nested text ≡ Plain (drop 1 text)
 nested_passes [] lt h q e f = absurd (omega arith)
 nested_passes (b ∷ t) lt h q e f = nested_brace b t h q ∙ rw (e, f) refl
+
+-- what no comment, quoted element or brace begins with
+nothing_opens : (b : ℕ) (t : List ℕ) → can_open b ≡ false → (comment (b ∷ t) ≡ None) × (quoted (b ∷ t) ≡ None)
+nothing_opens b t h =
+    let n34 = or_left (b == 34) _ h in
+    let m1 = or_right (b == 34) _ h in
+    let n35 = or_left (b == 35) _ m1 in
+    let m2 = or_right (b == 35) _ m1 in
+    let n39 = or_left (b == 39) _ m2 in
+    let m3 = or_right (b == 39) _ m2 in
+    let n47 = or_left (b == 47) _ m3 in
+    let m4 = or_right (b == 47) _ m3 in
+    let n60 = or_left (b == 60) _ m4 in
+    let n96 = or_right (b == 60) _ m4 in
+    (rw (n47, n35) refl, rw (n39, n34, n96, n60) refl)
+
+pub nested_other : (text : List ℕ) → 0 < length text → has_first (λ b. b == 123) text ≡ false → has_first (λ b. b == 125) text ≡ false → has_first can_open text ≡ false
+    → piece_in Nested text ≡ Plain (drop 1 text)
+nested_other [] lt e f h = absurd (omega arith)
+nested_other (b ∷ t) lt e f h = let none = nothing_opens b t h in nested_passes (b ∷ t) lt none.0 none.1 e f
+
+pub nested_first_open : (text : List ℕ) → has_first (λ b. b == 123) text ≡ true → piece_in Nested text ≡ Child Nested (drop 1 text)
+nested_first_open [] e = absurd cc
+nested_first_open (b ∷ t) e = subst (λ (x : ℕ). piece_in Nested (x ∷ t) ≡ Child Nested t) (sym (eqb-true b 123 e)) (nested_open (123 ∷ t) refl refl refl)
+
+pub nested_first_close : (text : List ℕ) → has_first (λ b. b == 125) text ≡ true → piece_in Nested text ≡ Close (drop 1 text)
+nested_first_close [] e = absurd cc
+nested_first_close (b ∷ t) e = subst (λ (x : ℕ). piece_in Nested (x ∷ t) ≡ Close t) (sym (eqb-true b 125 e)) (nested_close (125 ∷ t) refl refl refl refl)
+
+-- with `<` begins a heredoc or nothing
+pub nested_less : (text : List ℕ) → has_first (λ b. b == 60) text ≡ true → heredoc text ≡ None → piece_in Nested text ≡ Plain (drop 1 text)
+nested_less [] e h = absurd cc
+nested_less (b ∷ t) e h =
+    let is : b ≡ 60 = eqb-true b 60 e in
+    subst (λ (x : ℕ). piece_in Nested (x ∷ t) ≡ Plain t) (sym is) (nested_passes (60 ∷ t) (omega arith) refl (subst (λ (x : ℕ). heredoc (x ∷ t) ≡ None) is h) refl refl)
+
+pub nested_heredoc : (text : List ℕ) (o : Opened) → has_first (λ b. b == 60) text ≡ true → heredoc text ≡ Some o → piece_in Nested text ≡ Child o.element o.inside
+nested_heredoc [] o e h = absurd cc
+nested_heredoc (b ∷ t) o e h =
+    let is : b ≡ 60 = eqb-true b 60 e in
+    subst (λ (x : ℕ). piece_in Nested (x ∷ t) ≡ Child o.element o.inside) (sym is) (nested_quoted (60 ∷ t) o (omega arith) refl (subst (λ (x : ℕ). heredoc (x ∷ t) ≡ Some o) is h))
 
 -- ---- closing labels
 

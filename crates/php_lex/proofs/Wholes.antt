@@ -1,5 +1,5 @@
 -- Lexemes that one rule takes whole.
-use Rattle.std.proofs.Common.{◌≡◌, ℕ, ◌+◌, ◌-◌, ◌<◌, ◌≤◌, Bool, true, false, ◌&&◌, ◌||◌, ◌==◌, List, [], ◌∷◌, length, get_or, drop, Option, Some, None, refl, sym, ap, ◌∙◌, arith}
+use Rattle.std.proofs.Common.{◌≡◌, ℕ, ◌+◌, ◌-◌, ◌<◌, ◌≤◌, Bool, true, false, ◌&&◌, ◌||◌, ◌==◌, List, [], ◌∷◌, length, get_or, drop, Option, Some, None, refl, sym, ap, subst, ◌∙◌, arith}
 use Rattle.std.specs.Prelude.{not}
 use Rattle.std.proofs.lemmas.Bool.{eqb-true}
 use Rattle.std.proofs.lemmas.List.{drop_more, drop_all, drop-drop, length-drop}
@@ -8,7 +8,7 @@ use Rattle.php_lex.specs.declared.lexeme.LexKind.{LexKind}
 use Rattle.php_lex.specs.declared.lexeme.LexKind.TheVariants as kinds
 use Rattle.php_lex.specs.Places.{has_first, after_run}
 use Rattle.php_lex.specs.Comments.{is_close_tag, comment}
-use Rattle.php_lex.specs.Quotes.{Opened, quoted}
+use Rattle.php_lex.specs.Quotes.{Opened, heredoc, quoted}
 use Rattle.php_lex.specs.Lexemes.{Taken, Whole, Opening, joins, continues_name, after_name, named, sign, word, comment_or, quoted_or, taken}
 use Rattle.php_lex.specs.Marks.{begins_more, is_mark, begins_word, is_variable}
 use Rattle.php_lex.proofs.Firsts.{first_within}
@@ -185,6 +185,18 @@ no_close b more t h = rw (is_no (λ (x : ℕ). x == 36) b 63 (first_of_two (b ==
 pub taken_variable : (text : List ℕ) → is_variable text ≡ true → taken text ≡ word text
 taken_variable [] h = absurd cc
 taken_variable (b ∷ t) h = taken_begun (b ∷ t) (dollar_begins b (has_first starts_identifier t) h) (no_close b (has_first starts_identifier t) t h)
+
+pub taken_less : (text : List ℕ) → has_first (λ b. b == 60) text ≡ true → heredoc text ≡ None → taken text ≡ Whole kinds.Mark (drop 1 text)
+taken_less [] e h = absurd cc
+taken_less (b ∷ t) e h =
+    let is : b ≡ 60 = eqb-true b 60 e in
+    subst (λ (x : ℕ). taken (x ∷ t) ≡ Whole kinds.Mark t) (sym is) (taken_word (60 ∷ t) refl refl refl (subst (λ (x : ℕ). heredoc (x ∷ t) ≡ None) is h))
+
+pub taken_heredoc : (text : List ℕ) (o : Opened) → has_first (λ b. b == 60) text ≡ true → heredoc text ≡ Some o → taken text ≡ Opening o
+taken_heredoc [] o e h = absurd cc
+taken_heredoc (b ∷ t) o e h =
+    let is : b ≡ 60 = eqb-true b 60 e in
+    subst (λ (x : ℕ). taken (x ∷ t) ≡ Opening o) (sym is) (taken_quoted (60 ∷ t) refl refl o refl (subst (λ (x : ℕ). heredoc (x ∷ t) ≡ Some o) is h))
 
 pub taken_mark : (text : List ℕ) → has_first is_mark text ≡ true → taken text ≡ Whole kinds.Mark (drop 1 text)
 unfolding taken

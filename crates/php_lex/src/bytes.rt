@@ -3,14 +3,13 @@
 ghost use Rattle.std.specs.Prelude.{◌≡◌, ◌≤◌, ◌==◌, length, take, drop};
 ghost use Rattle.path_name.specs.Bytes.{is_blank, is_digit, lower, starts_identifier, continues_identifier};
 ghost use Rattle.php_lex.specs.Places.{has_first, begins_with, run_of, after_run, is_space, is_line_end, SkipsTo};
-ghost use Rattle.php_lex.specs.Marks.{is_mark, begins_word};
+ghost use Rattle.php_lex.specs.Marks.{is_mark, begins_word, can_open};
 ghost use Rattle.memchr.specs.Find.{is_byte, is_byte2, is_byte3};
 
 use memchr::{memchr, memchr2, memchr3};
 
 // For each byte a digit: 0 for a digit, 1 for a byte that starts an identifier, 2 for a blank, 3 for a byte
-// that can begin nothing but a mark, 5 for another that can begin neither a comment nor a quoted element, 4 for the
-// rest.
+// that can begin nothing but a mark, 4 for one that can begin a comment or a quoted element, 5 for the rest.
 static CLASSES: [u8; 256] = *b"\
     33333333322332333333333333333333\
     23445334333335340000000000534335\
@@ -68,6 +67,14 @@ fn begins_word(byte: u8) -> bool
 {
     let class = CLASSES[usize::from(byte)];
     (class == b'5') | (class == b'0')
+}
+
+// Whether a comment or a quoted element can begin with the byte.
+#[inline(always)]
+fn can_open(byte: u8) -> bool
+    ensures { result ≡ can_open byte }
+{
+    CLASSES[usize::from(byte)] == b'4'
 }
 
 /// Whether the byte is LF or CR.
@@ -140,6 +147,14 @@ pub(crate) fn begins_word_at(text: &[u8], at: usize) -> bool
     ensures { result ≡ has_first begins_word (drop at text.now) }
 {
     at < text.len() && begins_word(text[at])
+}
+
+/// Whether a byte that a comment or a quoted element can begin with stands at a place.
+#[inline(always)]
+pub(crate) fn can_open_at(text: &[u8], at: usize) -> bool
+    ensures { result ≡ has_first can_open (drop at text.now) }
+{
+    at < text.len() && can_open(text[at])
 }
 
 /// Whether LF or CR stands at a place.

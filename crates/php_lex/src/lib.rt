@@ -10,6 +10,7 @@ mod lexer;
 mod nested;
 mod opening;
 mod piece;
+mod signs;
 mod tags;
 mod word;
 

@@ -1,6 +1,7 @@
 //! Where quoted elements open.
 
-ghost use Rattle.std.specs.Prelude.{◌≡◌, ◌≤◌, [], ◌∷◌, length};
+ghost use Rattle.std.specs.Prelude.{◌≡◌, ◌≤◌, ◌==◌, false, [], ◌∷◌, length, None};
+ghost use Rattle.php_lex.specs.Places.{has_first};
 ghost use Rattle.php_lex.specs.Quotes.{opens_heredoc, label, heredoc, quoted};
 ghost use Rattle.php_lex.specs.Openings.{IsOpening, IsLabelled};
 
@@ -80,6 +81,14 @@ fn opens_heredoc(text: &[u8]) -> bool
     has_at(text, 0, b'<') & has_at(text, 1, b'<') & has_at(text, 2, b'<')
 }
 
+/// Whether `<<<` stands here, and no further `<`: else no heredoc opens here.
+#[inline(always)]
+pub(crate) fn can_open_heredoc(text: &[u8]) -> bool
+    ensures { result ≡ false → heredoc text.now ≡ None }
+{
+    opens_heredoc(text) & !has_at(text, 3, b'<')
+}
+
 /// The heredoc or nowdoc that opens here, if one does, and the length up to the end of that line.
 #[inline(never)]
 pub(crate) fn heredoc(text: &[u8]) -> Option<(Opening<'_>, usize)>
@@ -96,9 +105,10 @@ pub(crate) fn heredoc(text: &[u8]) -> Option<(Opening<'_>, usize)>
     }
 }
 
-/// The quoted element that opens here, if one does, and the length of its opening.
+/// The string in quotes or backticks that opens here, if one does, and the length of its opening.
 #[inline(always)]
 pub(crate) fn quoted(text: &[u8]) -> Option<(Opening<'_>, usize)>
+    requires { has_first (λ b. b == 60) text.now ≡ false }
     ensures { IsOpening text.now result (quoted text.now) }
 {
     if has_at(text, 0, b'\'') {
@@ -107,8 +117,6 @@ pub(crate) fn quoted(text: &[u8]) -> Option<(Opening<'_>, usize)>
         Some((Opening::Double, 1))
     } else if has_at(text, 0, b'`') {
         Some((Opening::Backtick, 1))
-    } else if opens_heredoc(text) {
-        heredoc(text)
     } else {
         None
     }

@@ -8,10 +8,11 @@ ghost use Rattle.php_lex.specs.Openings.{element_of};
 ghost use Rattle.php_lex.specs.Pieces.{opens_code_at, IsPiece};
 
 use crate::bytes::{
-    begins_with, continues_identifier_at, find2, find3, has_at, has_line_end_at, spaces_len,
+    begins_with, can_open_at, continues_identifier_at, find2, find3, has_at, has_line_end_at,
+    spaces_len,
 };
 use crate::comments::comment_len;
-use crate::opening::{Opening, quoted};
+use crate::opening::{Opening, can_open_heredoc, heredoc, quoted};
 
 /// What comes first, with the length up to behind it.
 #[derive(Clone, Copy)]
@@ -162,9 +163,28 @@ pub(crate) fn quoted_piece<'a>(opening: Opening<'a>, text: &'a [u8]) -> Piece<'a
     }
 }
 
-/// Inside nested code.
-pub(crate) fn nested_piece(text: &[u8]) -> Piece<'_>
-    requires { 0 < length text.now }
+// Inside nested code, where `<` stands.
+#[inline(never)]
+fn angle_piece(text: &[u8]) -> Piece<'_>
+    requires { has_first (λ b. b == 60) text.now ≡ true }
+    ensures { IsPiece Nested text.now result }
+{
+    if !can_open_heredoc(text) {
+        return Piece::Plain(1);
+    }
+    match heredoc(text) {
+        Some((opening, len)) => Piece::Quoted(opening, len),
+        None => Piece::Plain(1),
+    }
+}
+
+// Inside nested code, where neither a brace nor `<` stands.
+#[inline(never)]
+fn opening_piece(text: &[u8]) -> Piece<'_>
+    requires some { 0 < length text.now }
+    requires no_opening { has_first (λ b. b == 123) text.now ≡ false }
+    requires no_closing { has_first (λ b. b == 125) text.now ≡ false }
+    requires no_angle { has_first (λ b. b == 60) text.now ≡ false }
     ensures { IsPiece Nested text.now result }
 {
     if let Some(len) = comment_len(text) {
@@ -173,11 +193,26 @@ pub(crate) fn nested_piece(text: &[u8]) -> Piece<'_>
     if let Some((opening, len)) = quoted(text) {
         return Piece::Quoted(opening, len);
     }
+    Piece::Plain(1)
+}
+
+/// Inside nested code.
+#[inline(always)]
+pub(crate) fn nested_piece(text: &[u8]) -> Piece<'_>
+    requires { 0 < length text.now }
+    ensures { IsPiece Nested text.now result }
+{
     if has_at(text, 0, b'{') {
-        Piece::Nested(1)
-    } else if has_at(text, 0, b'}') {
-        Piece::Closed(1)
-    } else {
-        Piece::Plain(1)
+        return Piece::Nested(1);
     }
+    if has_at(text, 0, b'}') {
+        return Piece::Closed(1);
+    }
+    if !can_open_at(text, 0) {
+        return Piece::Plain(1);
+    }
+    if has_at(text, 0, b'<') {
+        return angle_piece(text);
+    }
+    opening_piece(text)
 }

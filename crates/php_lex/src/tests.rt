@@ -24,7 +24,7 @@ pub(crate) fn letter(kind: LexKind) -> u8 {
     }
 }
 
-const ROWS: [Row; 184] = [
+const ROWS: [Row; 194] = [
     // tags, and text outside code
     Row { kinds: "", cut: "" },
     Row {
@@ -347,6 +347,34 @@ const ROWS: [Row; 184] = [
         kinds: "OQP",
         cut: "<?php |\"{$a[<<<X\n}\nX]}\"|a",
     },
+    Row {
+        kinds: "OQP",
+        cut: "<?php |\"{$a[<<<'X'\n}\nX]}\"|a",
+    },
+    Row {
+        kinds: "OQP",
+        cut: "<?php |\"{$a[<<<<X\n}\nX]}\"|a",
+    },
+    Row {
+        kinds: "OQP",
+        cut: "<?php |\"{$a[<<<X}\"|a",
+    },
+    Row {
+        kinds: "OQP",
+        cut: "<?php |\"{$a[<<< <<<1 <]}\"|a",
+    },
+    Row {
+        kinds: "OQP",
+        cut: "<?php |\"{$a[1 / 2 # }\n]}\"|a",
+    },
+    Row {
+        kinds: "OQ",
+        cut: "<?php |\"{$a <<<X\n}\"",
+    },
+    Row {
+        kinds: "OQ",
+        cut: "<?php |\"{$a <<<",
+    },
     // heredocs and nowdocs
     Row {
         kinds: "OQm",
@@ -463,6 +491,18 @@ const ROWS: [Row; 184] = [
     Row {
         kinds: "OmQ",
         cut: "<?php |<|<<<X\nX",
+    },
+    Row {
+        kinds: "OmmmmmmP",
+        cut: "<?php |<|<|<|<|<|<|X",
+    },
+    Row {
+        kinds: "OmmmQ",
+        cut: "<?php |<|<|<|'X\nX",
+    },
+    Row {
+        kinds: "OmmQm",
+        cut: "<?php |<|<|<<<'X'\n<\nX|-",
     },
     Row {
         kinds: "Omm",

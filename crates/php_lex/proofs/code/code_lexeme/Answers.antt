@@ -28,6 +28,11 @@ returns-then-is_variable c =
     let e = c.variable.ensures in
     (e.0, e.1, whole (taken_variable c.args.text.now (sym c.is_variable.ensures ∙ c.if-is_variable.true) ∙ e.2))
 
+pub returns-then-is_lone_sign : goal.returns-then-is_lone_sign
+returns-then-is_lone_sign c =
+    let e = c.is_lone_sign.ensures c.if-is_lone_sign.true in
+    (omega arith, e.0, whole e.1)
+
 pub returns-then-is_close_tag : goal.returns-then-is_close_tag
 returns-then-is_close_tag c =
     let h = sym c.is_close_tag.ensures ∙ c.if-is_close_tag.true in
