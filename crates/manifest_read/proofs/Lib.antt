@@ -7,4 +7,5 @@ pub mod Formed
 pub mod NameParts
 pub mod NameBytes
 pub mod Written
+pub mod WrittenManifests
 pub mod Tokens

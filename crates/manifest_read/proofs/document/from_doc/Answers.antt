@@ -4,7 +4,8 @@ use Rattle.manifest_read.specs.Manifests.{manifest_from}
 use Rattle.manifest_read.specs.WellFormed.{IsManifest}
 use Rattle.manifest_read.specs.Writable.{IsWritableManifest}
 use Rattle.manifest_read.proofs.Formed.{if_given, pairs_are_formed}
-use Rattle.manifest_read.proofs.Written.{object_written, manifest_written_from}
+use Rattle.manifest_read.proofs.Written.{object_written}
+use Rattle.manifest_read.proofs.WrittenManifests.{manifest_written_from}
 use Rattle.manifest_read.proofs.document.from_doc.Goals as goal
 
 pub returns-clause-formed : goal.returns-clause-formed

@@ -1,5 +1,5 @@
 use Rattle.manifest_read.proofs.Formed.{manifests_are_formed, members_are_formed, entries_are_formed}
-use Rattle.manifest_read.proofs.Written.{manifests_are_written, entries_are_written}
+use Rattle.manifest_read.proofs.WrittenManifests.{manifests_are_written, entries_are_written}
 use Rattle.manifest_read.proofs.laws.well_formed.Goals as goal
 
 pub returns-clause-manifests : goal.returns-clause-manifests

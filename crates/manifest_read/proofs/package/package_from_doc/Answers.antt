@@ -4,7 +4,8 @@ use Rattle.manifest_read.specs.Packages.{package_entry_from}
 use Rattle.manifest_read.specs.WellFormed.{IsMember}
 use Rattle.manifest_read.specs.Writable.{IsWritablePackage}
 use Rattle.manifest_read.proofs.Formed.{if_given, entry_package_formed}
-use Rattle.manifest_read.proofs.Written.{object_written, entry_written_from}
+use Rattle.manifest_read.proofs.Written.{object_written}
+use Rattle.manifest_read.proofs.WrittenManifests.{entry_written_from}
 use Rattle.manifest_read.proofs.package.package_from_doc.Goals as goal
 
 pub returns-clause-formed : goal.returns-clause-formed
