@@ -12,9 +12,12 @@ ghost use Rattle.pkg_pool.specs.Matches.{holds_manifest, matches};
 ghost use Rattle.pkg_pool.specs.Pools.{HasPaths, Loaded, pool_of_tree};
 ghost use Rattle.pkg_pool.specs.Offered.{counted, offered};
 
+use manifest_read::Manifest;
+
 /// The urls of a manifest that was read have the segments of paths, as `load` asks of them.
-pub fn manifests_have_paths()
-    ensures { (root : Manifest) → IsManifest Root root → AllByRecursion HasPaths root.repositories }
+pub fn manifests_have_paths(_root: &Manifest)
+    requires { IsManifest Root _root.now }
+    ensures { AllByRecursion HasPaths _root.now.repositories }
 {}
 
 /// The folders of packages that a url names in a tree are all those that it matches, each once and in path order.

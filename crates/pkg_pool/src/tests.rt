@@ -54,7 +54,7 @@ fn pool_of(
 ) -> Result<Result<Pool, PoolFault>, Fail> {
     let project = Path::read(alloc, project)?;
     let root = root_of(alloc, root)?;
-    manifests_have_paths();
+    manifests_have_paths(&root);
     Ok(load(alloc, tree, &project, root, left))
 }
 
@@ -198,7 +198,7 @@ fn tells(
 /// Runs a row, and runs it again with each call of the device failing in turn.
 fn disturbed(rt: &impl Abort, alloc: Global, row: &Row) -> Result<(), Fail> {
     let calls = tells(rt, alloc, row, &[], row.told)?;
-    for number in 1..calls + 1 {
+    for number in 1..=calls {
         tells(rt, alloc, row, &[number], b"device")?;
     }
     Ok(())

@@ -2,4 +2,4 @@ use Rattle.pkg_pool.proofs.Roots.{paths_of}
 use Rattle.pkg_pool.proofs.laws.manifests_have_paths.Goals as goal
 
 pub returns : goal.returns
-returns c = λ root manifest. paths_of root.repositories manifest.repositories
+returns c = paths_of c.args._root.now.repositories c.requires.repositories
