@@ -90,7 +90,7 @@ fn holds(alloc: Global, row: &str) -> Option<bool> {
     Some(told.as_slice() == wanted.as_bytes())
 }
 
-const ALLOWED: [&str; 12] = [
+static ALLOWED: [&str; 12] = [
     "{}|||Meets",
     "{}|{\"name\":\"a/a\",\"version\":\"1.0.0\"}||Meets",
     "{}|{\"name\":\"a/a\",\"version\":\"1.0.0\"}|0|Meets",
@@ -105,7 +105,7 @@ const ALLOWED: [&str; 12] = [
     "{}|{\"name\":\"a/a\",\"version\":\"1.0.0-beta1\"}|{\"name\":\"a/a\",\"version\":\"2.0.0\"}|01|NotAllowed a/a",
 ];
 
-const OWNERS: [&str; 11] = [
+static OWNERS: [&str; 11] = [
     "{}|{\"name\":\"a/a\",\"version\":\"1.0.0\"}|{\"name\":\"a/a\",\"version\":\"2.0.0\"}|01|TwoOwners a/a a/a a/a",
     "{}|{\"name\":\"a/a\",\"version\":\"1.0.0\"}|{\"name\":\"b/b\",\"version\":\"1.0.0\",\"replace\":{\"a/a\":\"1.0\"}}|01|TwoOwners a/a a/a b/b",
     "{}|{\"name\":\"z/z\",\"version\":\"1.0.0\"}|{\"name\":\"b/b\",\"version\":\"1.0.0\",\"replace\":{\"z/z\":\"1.0\"}}|01|TwoOwners z/z b/b z/z",
@@ -119,7 +119,7 @@ const OWNERS: [&str; 11] = [
     "{\"require\":{\"q/q\":\"*\"}}|{\"name\":\"a/a\",\"version\":\"1.0.0\"}|{\"name\":\"a/a\",\"version\":\"2.0.0\"}|01|TwoOwners a/a a/a a/a",
 ];
 
-const NEEDS: [&str; 19] = [
+static NEEDS: [&str; 19] = [
     "{\"require\":{\"a/a\":\"*\"}}|{\"name\":\"a/a\",\"version\":\"1.0.0\"}|0|Meets",
     "{\"require\":{\"a/a\":\"*\"}}|{\"name\":\"a/a\",\"version\":\"1.0.0\"}||Unmet __root__ a/a",
     "{\"require\":{\"a/a\":\"^2\"}}|{\"name\":\"a/a\",\"version\":\"1.0.0\"}|0|Unmet __root__ a/a",
@@ -141,7 +141,7 @@ const NEEDS: [&str; 19] = [
     "{}|{\"name\":\"a/a\",\"version\":\"1.0.0\",\"conflict\":{\"b/b\":\"*\"}}|{\"name\":\"b/b\",\"version\":\"1.0.0\",\"require\":{\"q/q\":\"*\"}}|01|Unmet b/b q/q",
 ];
 
-const CONFLICTS: [&str; 13] = [
+static CONFLICTS: [&str; 13] = [
     "{}|{\"name\":\"a/a\",\"version\":\"1.0.0\",\"conflict\":{\"b/b\":\"*\"}}|{\"name\":\"b/b\",\"version\":\"1.0.0\"}|01|Conflict a/a b/b b/b",
     "{}|{\"name\":\"a/a\",\"version\":\"1.0.0\",\"conflict\":{\"b/b\":\"*\"}}|{\"name\":\"b/b\",\"version\":\"1.0.0\"}|0|Meets",
     "{}|{\"name\":\"a/a\",\"version\":\"1.0.0\",\"conflict\":{\"b/b\":\"^2\"}}|{\"name\":\"b/b\",\"version\":\"1.0.0\"}|01|Meets",
@@ -157,7 +157,7 @@ const CONFLICTS: [&str; 13] = [
     "{\"config\":{\"platform\":{\"php\":\"8.0.0\"}},\"require\":{\"php\":\">=8.1\"}}|{\"name\":\"a/a\",\"version\":\"1.0.0\",\"conflict\":{\"b/b\":\"*\"}}|{\"name\":\"b/b\",\"version\":\"1.0.0\"}|01|Conflict a/a b/b b/b",
 ];
 
-const PLATFORMS: [&str; 7] = [
+static PLATFORMS: [&str; 7] = [
     "{\"config\":{\"platform\":{\"php\":\"8.0.0\"}},\"require\":{\"a/a\":\"*\",\"php\":\">=8.1\"}}|{\"name\":\"a/a\",\"version\":\"1.0.0\"}|0|Platform __root__ php",
     "{\"config\":{\"platform\":{\"php\":\"8.0.0\"}}}|{\"name\":\"a/a\",\"version\":\"1.0.0\",\"require\":{\"php\":\">=8.1\"}}|0|Platform a/a php",
     "{\"config\":{\"platform\":{\"php\":\"8.0.0\"}}}|{\"name\":\"a/a\",\"version\":\"1.0.0\",\"require\":{\"ext-y\":\"*\"}}|0|Meets",
