@@ -166,6 +166,13 @@ impl RootFlags {
         })
     }
 
+    /// The flags that count, by name: for a name without one the root's minimum stability holds. Takes no memory.
+    pub fn by_name(&self) -> &BTreeMap<Name, Grade>
+        ensures { (root : Manifest) → AreFlagsOf self.now root → (name : List ℕ) → get byte_cmp result.now name ≡ root_flag root name }
+    {
+        &self.flags
+    }
+
     /// Whether a candidate is allowed, as [`allowed`] says it. Takes no memory.
     #[tactic(auto, unfolding(crate::specs::Stability::is_allowed))]
     pub fn allow(&self, candidate: &Candidate) -> bool

@@ -13,3 +13,7 @@ pub mod Offering
 pub mod Rows
 pub mod Owners
 pub mod Breaking
+pub mod FitsBeside
+pub mod MarkedRivals
+pub mod Beside
+pub mod RootAlone

@@ -134,7 +134,7 @@ and_false_right true = refl
 and_false_right false = refl
 
 module _ (from : List ℕ) (link : Link) where
-  abbrev other : Package → Bool
+  abbrev pub other : Package → Bool
   other party = not (bytes_are_equal party.name from)
 
   none_of : (links : List Link) → list_any (λ it. names link.name it && (overlaps link.wants it.wants && false)) links ≡ false
@@ -150,7 +150,7 @@ module _ (from : List ℕ) (link : Link) where
   against_step true party = rw (and_true_right (satisfies link.wants party.version), all_of party.replace) refl
   against_step false party = rw (and_false_right (satisfies link.wants party.version), and_false_right (owns link.name party), none_of party.replace) refl
 
-  other_offer : (number : ℕ) (party : Package) → option_map (λ offer. offer.party) (find (is_other_taker from link) (offers_by link.name number party)) ≡ cond (other party && is_against link party) (Some party) None
+  pub other_offer : (number : ℕ) (party : Package) → option_map (λ offer. offer.party) (find (is_other_taker from link) (offers_by link.name number party)) ≡ cond (other party && is_against link party) (Some party) None
   other_offer number party = first_offer (λ offer. offer.party) party (is_other_taker from link) (λ it. overlaps link.wants it.wants && other party) link.name number party (satisfies link.wants party.version && other party) (λ way. refl) refl (λ it. refl) (λ it. refl)
       ∙ ap (λ t. cond t (Some party) None) (against_step (other party) party)
 
@@ -177,11 +177,11 @@ module _ (name : List ℕ) where
   none_names [] = refl
   none_names (it ∷ links) = rw (and_false_right (names name it)) (none_names links)
 
-  abbrev numbered : Offered → ℕ × Package
+  abbrev pub numbered : Offered → ℕ × Package
   numbered offer = (offer.number, offer.party)
 
   -- the first that takes the name shows its package and its number
-  first_taking : (number : ℕ) (party : Package) → option_map numbered (find is_taking (offers_by name number party)) ≡ cond (takes name party) (Some (number, party)) None
+  pub first_taking : (number : ℕ) (party : Package) → option_map numbered (find is_taking (offers_by name number party)) ≡ cond (takes name party) (Some (number, party)) None
   first_taking number party = first_offer numbered (number, party) is_taking (λ it. true) name number party true (λ way. refl) refl (λ it. refl) (λ it. refl)
       ∙ rw (and_true_right (owns name party), any_names party.replace) refl
 

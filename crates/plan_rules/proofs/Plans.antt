@@ -10,10 +10,11 @@ use Rattle.pkg_pool.specs.declared.pool.Pool.{Pool}
 use Rattle.pkg_pool.specs.declared.pool.Candidate.{Candidate}
 use Rattle.plan_rules.specs.Sets.{Chosen, IsWithin, has, is_in, set_from, set_of, has_all}
 use Rattle.plan_rules.specs.Requirements.{meets, is_on_package}
-use Rattle.plan_rules.specs.Validity.{members, parties, links_of, requirements, is_unmet, is_valid}
+use Rattle.plan_rules.specs.declared.rule.Rule.TheVariants as rules
+use Rattle.plan_rules.specs.Validity.{members, parties, links_of, requirements, is_unmet, unmet, is_valid}
 use Rattle.plan_rules.specs.Preference.{package_at, is_alternative}
 use Rattle.plan_rules.specs.FirstChoice.{packages_of, queue, waits, first_unmet}
-use Rattle.plan_rules.proofs.Lists.{Among, among_left, among_right, among_either, among_map, map_among, among_flat_map, flat_map_among, find_none, any_among, among_any}
+use Rattle.plan_rules.proofs.Lists.{Among, among_left, among_right, among_either, among_map, map_among, among_flat_map, flat_map_among, find_none, none_found, any_among, among_any}
 use Rattle.plan_rules.proofs.SetMembers.{IsMember, among_parties, parties_among, member_of, member_package}
 use Rattle.plan_rules.proofs.KeptRules.{Keeps, keeps, kept, find_some}
 use Rattle.plan_rules.proofs.Subsets.{smaller}
@@ -45,7 +46,7 @@ has_among set [] number all found = absurd found
 has_among set (first ∷ others) number all (inl e) = ap (has set) (sym e) ∙ left_true (has set first) (has_all set others) all
 has_among set (first ∷ others) number all (inr there) = has_among set others number (right_true (has set first) (has_all set others) all) there
 
-has_in : (count at : ℕ) (list : List ℕ) (number : ℕ) → has (set_from count at list) number ≡ true → is_in (at + number) list ≡ true
+pub has_in : (count at : ℕ) (list : List ℕ) (number : ℕ) → has (set_from count at list) number ≡ true → is_in (at + number) list ≡ true
 has_in zero at list number e = absurd (false≢true e)
 has_in (suc count) at list zero e = ap (λ n. is_in n list) (omega arith) ∙ e
 has_in (suc count) at list (suc number) e = ap (λ n. is_in n list) (omega arith) ∙ has_in count (suc at) list number e
@@ -90,12 +91,12 @@ chosen_packages_among pool [] number party found e = absurd found
 chosen_packages_among pool (first ∷ others) number party (inl same) e = rw (ap (package_at pool) same ∙ e) (inl refl)
 chosen_packages_among pool (first ∷ others) number party (inr there) e = onto (package_at pool first) (chosen_packages pool others) party (chosen_packages_among pool others number party there e)
 
-in_range : {X : Type 0} (xs : List X) (number : ℕ) (x : X) → slice_get xs number ≡ Some x → number < length xs
+pub in_range : {X : Type 0} (xs : List X) (number : ℕ) (x : X) → slice_get xs number ≡ Some x → number < length xs
 in_range [] number x e = absurd cc
 in_range (y ∷ ys) zero x e = omega arith
 in_range (y ∷ ys) (suc number) x e = omega (arith, in_range ys number x e)
 
-package_in_range : (pool : Pool) (number : ℕ) (party : Package) → package_at pool number ≡ Some party → number < length pool.candidates
+pub package_in_range : (pool : Pool) (number : ℕ) (party : Package) → package_at pool number ≡ Some party → number < length pool.candidates
 package_in_range pool number party e = by (slice_get pool.candidates number) refl e
   where
     by : (o : Option Candidate) → slice_get pool.candidates number ≡ o → option_map (λ it. it.«package») o ≡ Some party → number < length pool.candidates
@@ -217,3 +218,11 @@ done pool before set size valid all e =
     (λ wanted there. fewer_wait (is_on_package wanted.1) (list_any (meets wanted.1) (packages_of pool before)) (list_any (meets wanted.1) (parties pool (set_of (length pool.candidates) before)))
     (none_unmet pool before wanted.1 e (required_queue pool before wanted there))
     (λ found. let one = among_any (meets wanted.1) (packages_of pool before) found in any_among (meets wanted.1) (parties pool (set_of (length pool.candidates) before)) one.0 (own_parties pool before one.0 one.1) one.2)))
+
+-- where nothing waits behind a list, its set has all that it requires
+pub unmet_of_lists : (pool : Pool) (list : List ℕ) → first_unmet pool list ≡ None → unmet pool (set_of (length pool.candidates) list) ≡ None
+unmet_of_lists pool list e = ap (option_map (λ wanted. rules.Unmet wanted.0 wanted.1.name))
+    (none_found (is_unmet (parties pool (set_of (length pool.candidates) list))) (requirements pool (set_of (length pool.candidates) list))
+    (λ wanted there. fewer_wait (is_on_package wanted.1) (list_any (meets wanted.1) (packages_of pool list)) (list_any (meets wanted.1) (parties pool (set_of (length pool.candidates) list)))
+    (none_unmet pool list wanted.1 e (required_queue pool list wanted there))
+    (λ found. let one = among_any (meets wanted.1) (packages_of pool list) found in any_among (meets wanted.1) (parties pool (set_of (length pool.candidates) list)) one.0 (own_parties pool list one.0 one.1) one.2)))

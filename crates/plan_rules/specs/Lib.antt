@@ -5,3 +5,5 @@ pub mod Preference
 pub mod FirstChoice
 pub mod Offers
 pub mod Breaking
+pub mod Fitting
+pub mod Rivals

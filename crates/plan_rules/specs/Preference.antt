@@ -1,6 +1,6 @@
 -- Which of the alternatives of a requirement is preferred (Composer's documentation, "The composer.json schema",
 -- "prefer-stable"; "Path").
-use Rattle.std.specs.Prelude.{ℕ, List, Bool, false, Option, Some, None, option_map, if◌then◌else◌}
+use Rattle.std.specs.Prelude.{◌≡◌, ℕ, List, [], ◌∷◌, Bool, true, false, ⊤, Option, Some, None, option_map, if◌then◌else◌}
 use Rattle.std.specs.List.{slice_get}
 use Rattle.std.specs.Option.{option_map_or}
 use Rattle.std.specs.Ordering.{nat_cmp, ordering_then, is_lt}
@@ -14,6 +14,7 @@ use Rattle.version_norm.specs.declared.version.Version.TheVariants as versions
 use Rattle.manifest_read.specs.declared.types.Link.{Link}
 use Rattle.manifest_read.specs.declared.types.Package.{Package}
 use Rattle.pkg_pool.specs.declared.pool.Pool.{Pool}
+use Rattle.plan_rules.specs.Sets.{is_in}
 use Rattle.plan_rules.specs.Requirements.{owns, replaces, meets}
 
 -- who owns the name comes before who replaces it, and that before who provides it, whichever of these meets the
@@ -58,3 +59,13 @@ is_alternative pool link number = option_map_or (meets link) (package_at pool nu
 -- it is preferred to the other one
 abbrev pub is_preferred : Pool → Link → ℕ → ℕ → Bool
 is_preferred pool link one other = is_lt (preference pool link one other)
+
+-- each of a list is preferred to all behind it
+abbrev pub AreSorted : Pool → Link → List ℕ → Type 0
+AreSorted pool link [] = ⊤
+AreSorted pool link (first ∷ others) = ((other : ℕ) → is_in other others ≡ true → is_preferred pool link first other ≡ true) × AreSorted pool link others
+
+-- all alternatives of a requirement, in order of preference
+pub record AreAlternatives (pool : Pool) (link : Link) (list : List ℕ) : Type 0 where
+  pub all : (number : ℕ) → is_in number list ≡ is_alternative pool link number
+  pub sorted : AreSorted pool link list

@@ -1,9 +1,11 @@
 //! The rules that the links of packages break.
 
 ghost use Rattle.std.specs.Prelude.{◌≡◌, ℕ, List, Some, None, map, find, if◌then◌else◌, IfOk};
+ghost use Rattle.std.specs.List.{list_any};
 ghost use Rattle.std.specs.Option.{option_map};
 ghost use Rattle.plan_rules.specs.Requirements.{is_on_package};
 ghost use Rattle.plan_rules.specs.Validity.{first_rule, is_unmet, is_barred, is_listed_as, against};
+ghost use Rattle.plan_rules.specs.Fitting.{suits_platform};
 ghost use Rattle.plan_rules.specs.Breaking.{rule_of, links_for, rule_of_package, AreRight, parties_in, rows_in};
 ghost use Rattle.plan_rules.specs.declared.rule.Rule.TheVariants as rules;
 
@@ -93,6 +95,55 @@ impl<'a> Facts<'a> {
             None => None,
             Some(row) => Some(&row.name),
         }
+    }
+
+    fn is_listed(&self, link: &Link) -> bool
+        requires { AreRight self.now }
+        ensures { result ≡ list_any (is_listed_as link.now) (rows_in self.now) }
+    {
+        self.listed_as(link).is_some()
+    }
+
+    /// Whether a platform package is listed that one of some links names in a version that it wants.
+    fn any_listed(&self, links: &[Link]) -> bool
+        requires { AreRight self.now }
+        ensures { result ≡ list_any (λ link. list_any (is_listed_as link) (rows_in self.now)) links.now }
+    {
+        for link in links {
+            if self.is_listed(link) {
+                return true;
+            }
+        }
+        false
+    }
+
+    fn is_barred_of(&self, name: &Name, link: &Link) -> bool
+        requires { AreRight self.now }
+        ensures { result ≡ is_barred (rows_in self.now) (name.now, link.now) }
+    {
+        self.is_barred(link)
+    }
+
+    /// Whether one of some requirements of a package is at odds with what is listed.
+    pub(crate) fn any_barred(&self, name: &Name, links: &[Link]) -> bool
+        requires { AreRight self.now }
+        ensures { result ≡ list_any (λ link. is_barred (rows_in self.now) (name.now, link)) links.now }
+    {
+        for link in links {
+            if self.is_barred_of(name, link) {
+                return true;
+            }
+        }
+        false
+    }
+
+    /// Whether neither a conflict nor a requirement of a package is at odds with what the root lists of the platform.
+    pub(crate) fn suits_platform(&self, party: &Package) -> bool
+        requires { AreRight self.now }
+        ensures { result ≡ suits_platform (rows_in self.now) party.now }
+    {
+        !self.any_listed(party.conflict.as_slice())
+            && !self.any_barred(&party.name, party.require.as_slice())
     }
 
     /// What a conflict is with: the first other package, or else the listed platform package.

@@ -111,7 +111,7 @@ fn put_package<'a>(
 }
 
 /// The packages of a pool's candidates.
-fn packages_of<'a>(
+pub(crate) fn packages_of<'a>(
     alloc: Global,
     candidates: &'a [Candidate],
 ) -> Result<Vec<&'a Package>, AllocError>
@@ -162,6 +162,13 @@ impl<'a> Index<'a> {
     {
         let packages = packages_of(alloc, pool.candidates.as_slice())?;
         Index::of(alloc, packages.as_slice())
+    }
+
+    /// What stands for a name.
+    pub(crate) fn rows_at(&self, name: &Name) -> &[Offer<'a>]
+        ensures { result.now ≡ rows_at self.now.offers name.now }
+    {
+        self.offers.at(name)
     }
 
     /// The packages that own, replace or provide a name, in order, and how each does. Takes no memory.

@@ -1,9 +1,12 @@
 //! Laws of the definitions that the contracts cite.
 
-ghost use Rattle.std.specs.Prelude.{◌≡◌, ◌≢◌, ◌≤◌, ℕ, List, [], length, true, Bool, Some, None};
+ghost use Rattle.std.specs.Prelude.{◌≡◌, ◌≢◌, ◌≤◌, ℕ, List, [], ◌∷◌, ◌++◌, length, true, false, Bool, Some, None};
 ghost use Rattle.manifest_read.specs.declared.types.Link.{Link};
+ghost use Rattle.std.specs.List.{slice_get};
 ghost use Rattle.pkg_pool.specs.declared.pool.Pool.{Pool};
-ghost use Rattle.plan_rules.specs.Sets.{Chosen, IsWithin, AreDistinct, has_all};
+ghost use Rattle.pkg_pool.specs.declared.pool.Candidate.{Candidate};
+ghost use Rattle.plan_rules.specs.Fitting.{BreaksNone, fits};
+ghost use Rattle.plan_rules.specs.Sets.{Chosen, IsWithin, AreDistinct, has_all, is_in};
 ghost use Rattle.plan_rules.specs.Validity.{members, parties, not_allowed, two_owners, unmet, conflict, platform, is_valid};
 ghost use Rattle.plan_rules.specs.Preference.{is_alternative, is_preferred};
 ghost use Rattle.plan_rules.specs.FirstChoice.{Extends, IsFirstChoice, first_unmet};
@@ -53,4 +56,12 @@ pub fn dead_ends()
     ensures none { (pool : Pool) (before : List ℕ) (need : Link) → first_unmet pool before ≡ Some need →
         ((choice : ℕ) → is_alternative pool need choice ≡ true → Extends pool before choice → ⊥) →
         (set : Chosen) → length set ≡ length pool.candidates → is_valid pool set ≡ true → has_all set before ≡ true → ⊥ }
+{}
+
+/// A candidate fits beside a list that breaks no rule exactly where the list with it breaks none.
+pub fn fitting()
+    ensures breaks_none { (pool : Pool) (before : List ℕ) (number : ℕ) (one : Candidate) → slice_get pool.candidates number ≡ Some one →
+        is_in number before ≡ false → BreaksNone pool before → fits pool before one ≡ true → BreaksNone pool (before ++ number ∷ []) }
+    ensures fits { (pool : Pool) (before : List ℕ) (number : ℕ) (one : Candidate) → slice_get pool.candidates number ≡ Some one →
+        is_in number before ≡ false → BreaksNone pool (before ++ number ∷ []) → fits pool before one ≡ true }
 {}

@@ -10,12 +10,16 @@ mod laws;
 mod members;
 mod offers;
 mod platform;
+mod rivals;
 mod rule;
 
 pub use checking::check;
 pub use index::Index;
-pub use laws::{dead_ends, first_choices, larger_sets, new_choices, preferences, smaller_sets};
+pub use laws::{
+    dead_ends, first_choices, fitting, larger_sets, new_choices, preferences, smaller_sets,
+};
 pub use offers::{Offer, Standing};
+pub use rivals::Rivals;
 pub use rule::{Rule, Selection, Verdict};
 
 #[cfg(test)]

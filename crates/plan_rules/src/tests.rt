@@ -201,3 +201,92 @@ fn platform_packages(rt: HostRuntime) {
         assert_eq!(rt; holds(rt.alloc(), row), Some(true));
     }
 }
+
+/// The marks that a row writes, of each candidate a `1` or a `0`.
+fn marks_of(alloc: Global, digits: &str) -> Option<Vec<bool>> {
+    let mut marks = Vec::new(alloc);
+    for digit in digits.as_bytes() {
+        marks.push(*digit == b'1').ok()?;
+    }
+    Some(marks)
+}
+
+/// Whether the candidate of a digit fits beside the marked ones.
+fn is_fitting(alloc: Global, texts: &str, marks: &str, digit: &str) -> Option<bool> {
+    let pool = pool_of(alloc, texts)?;
+    let rivals = Rivals::of(alloc, &pool).ok()?;
+    let marks = marks_of(alloc, marks)?;
+    let digit = digit.as_bytes().first()?;
+    Some(rivals.fits(marks.as_slice(), u32::from(digit.saturating_sub(b'0'))))
+}
+
+/// Whether a candidate fits as a row has it behind the pool, the marks and the candidate's digit.
+fn fits_so(alloc: Global, row: &str) -> Option<bool> {
+    let (texts, wanted) = row.rsplit_once('|')?;
+    let (texts, digit) = texts.rsplit_once('|')?;
+    let (texts, marks) = texts.rsplit_once('|')?;
+    let fits = is_fitting(alloc, texts, marks, digit)?;
+    Some(fits == (wanted == "fits"))
+}
+
+static RIVALS: [&str; 21] = [
+    "{}|{\"name\":\"a/a\",\"version\":\"1.0.0\"}|0|0|fits",
+    "{}|{\"name\":\"a/a\",\"version\":\"1.0.0\"}|0|7|not",
+    "{}|{\"name\":\"a/a\",\"version\":\"1.0.0-beta1\"}|0|0|not",
+    "{}|{\"name\":\"a/a\",\"version\":\"1.0.0\"}|{\"name\":\"a/a\",\"version\":\"2.0.0\"}|10|1|not",
+    "{}|{\"name\":\"a/a\",\"version\":\"1.0.0\"}|{\"name\":\"a/a\",\"version\":\"2.0.0\"}|00|1|fits",
+    "{}|{\"name\":\"a/a\",\"version\":\"1.0.0\"}|{\"name\":\"b/b\",\"version\":\"1.0.0\",\"replace\":{\"a/a\":\"1.0\"}}|10|1|not",
+    "{}|{\"name\":\"a/a\",\"version\":\"1.0.0\",\"replace\":{\"x/x\":\"1.0\"}}|{\"name\":\"b/b\",\"version\":\"1.0.0\",\"replace\":{\"x/x\":\"2.0\"}}|10|1|not",
+    "{}|{\"name\":\"a/a\",\"version\":\"1.0.0\",\"provide\":{\"v/v\":\"1.0\"}}|{\"name\":\"b/b\",\"version\":\"1.0.0\",\"provide\":{\"v/v\":\"1.0\"}}|10|1|fits",
+    "{\"replace\":{\"b/b\":\"*\"}}|{\"name\":\"b/b\",\"version\":\"1.0.0\"}|0|0|not",
+    "{}|{\"name\":\"a/a\",\"version\":\"1.0.0\",\"conflict\":{\"b/b\":\"*\"}}|{\"name\":\"b/b\",\"version\":\"1.0.0\"}|10|1|not",
+    "{}|{\"name\":\"a/a\",\"version\":\"1.0.0\",\"conflict\":{\"b/b\":\"*\"}}|{\"name\":\"b/b\",\"version\":\"1.0.0\"}|01|0|not",
+    "{}|{\"name\":\"a/a\",\"version\":\"1.0.0\",\"conflict\":{\"b/b\":\"^2\"}}|{\"name\":\"b/b\",\"version\":\"1.0.0\"}|10|1|fits",
+    "{}|{\"name\":\"a/a\",\"version\":\"1.0.0\",\"conflict\":{\"x/x\":\"^1\"}}|{\"name\":\"b/b\",\"version\":\"1.0.0\",\"replace\":{\"x/x\":\"1.0\"}}|10|1|not",
+    "{}|{\"name\":\"a/a\",\"version\":\"1.0.0\",\"conflict\":{\"x/x\":\"^2\"}}|{\"name\":\"b/b\",\"version\":\"1.0.0\",\"replace\":{\"x/x\":\"1.0\"}}|10|1|fits",
+    "{}|{\"name\":\"a/a\",\"version\":\"1.0.0\",\"conflict\":{\"x/x\":\"*\"}}|{\"name\":\"b/b\",\"version\":\"1.0.0\",\"provide\":{\"x/x\":\"1.0\"}}|10|1|fits",
+    "{}|{\"name\":\"a/a\",\"version\":\"1.0.0\",\"conflict\":{\"a/a\":\"*\"}}|0|0|fits",
+    "{\"conflict\":{\"a/a\":\"*\"}}|{\"name\":\"a/a\",\"version\":\"1.0.0\"}|0|0|not",
+    "{\"name\":\"r/r\",\"version\":\"1.0.0\"}|{\"name\":\"a/a\",\"version\":\"1.0.0\",\"conflict\":{\"r/r\":\"*\"}}|0|0|not",
+    "{\"config\":{\"platform\":{\"php\":\"8.0.0\"}}}|{\"name\":\"a/a\",\"version\":\"1.0.0\",\"conflict\":{\"php\":\">=8.0\"}}|0|0|not",
+    "{\"config\":{\"platform\":{\"php\":\"8.0.0\"}}}|{\"name\":\"a/a\",\"version\":\"1.0.0\",\"require\":{\"php\":\">=8.1\"}}|0|0|not",
+    "{\"config\":{\"platform\":{\"php\":\"8.0.0\"}}}|{\"name\":\"a/a\",\"version\":\"1.0.0\",\"require\":{\"ext-y\":\"*\",\"q/q\":\"*\"}}|0|0|fits",
+];
+
+/// Whether the root of a pool fits alone.
+fn root_is_fitting(alloc: Global, root: &str) -> Option<bool> {
+    let root = manifest(alloc, root, Role::Root)?;
+    let candidates = Items::of(Vec::new(alloc));
+    let pool = Pool { root, candidates };
+    let rivals = Rivals::of(alloc, &pool).ok()?;
+    Some(rivals.root_fits())
+}
+
+fn root_fits_so(alloc: Global, row: &str) -> Option<bool> {
+    let (root, wanted) = row.rsplit_once('|')?;
+    let fits = root_is_fitting(alloc, root)?;
+    Some(fits == (wanted == "fits"))
+}
+
+static ROOTS: [&str; 6] = [
+    "{\"require\":{\"a/a\":\"*\"}}|fits",
+    "{\"name\":\"r/r\",\"conflict\":{\"r/r\":\"*\"}}|fits",
+    "{\"config\":{\"platform\":{\"php\":\"8.0.0\"}},\"conflict\":{\"php\":\">=8.0\"}}|not",
+    "{\"config\":{\"platform\":{\"php\":\"8.0.0\"}},\"require\":{\"php\":\">=8.1\"}}|not",
+    "{\"config\":{\"platform\":{\"php\":\"8.0.0\"}},\"require-dev\":{\"php\":\">=8.1\"}}|not",
+    "{\"require\":{\"php\":\">=99\"}}|fits",
+];
+
+#[test]
+fn candidates_beside_others(rt: HostRuntime) {
+    for row in &RIVALS {
+        assert_eq!(rt; fits_so(rt.alloc(), row), Some(true));
+    }
+}
+
+#[test]
+fn roots_alone(rt: HostRuntime) {
+    for row in &ROOTS {
+        assert_eq!(rt; root_fits_so(rt.alloc(), row), Some(true));
+    }
+}

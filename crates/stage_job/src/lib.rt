@@ -14,6 +14,8 @@ mod whole;
 pub use fault::StageFault;
 pub use job::{Inner, Job, Leaf, Part, Source};
 pub use laws::{checks_never_vanish, parts_commute, staged_parts_are_new};
+pub use mirror::{copied_names, refuse_deep};
+pub use putting::list_names;
 pub use whole::stage;
 
 #[cfg(test)]

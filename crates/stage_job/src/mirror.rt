@@ -40,8 +40,9 @@ fn add_copied(alloc: Global, kept: &mut Vec<Name>, name: &Name) -> Result<(), Al
     Ok(())
 }
 
-/// The names of a package's top entries that are copied. Its one refusal is want of memory.
-fn copied_names(alloc: Global, names: &[Name]) -> Result<Vec<Name>, AllocError>
+/// The names of a package's top entries that are copied: all but `vendor`, `.git` and `.install`, in the order in which they
+/// were given. Its one refusal is want of memory.
+pub fn copied_names(alloc: Global, names: &[Name]) -> Result<Vec<Name>, AllocError>
     ensures { IfOk result (λ kept. kept.items ≡ filter passes_top names.now) }
 {
     let mut kept = Vec::with_capacity(alloc, names.len())?;
@@ -51,8 +52,9 @@ fn copied_names(alloc: Global, names: &[Name]) -> Result<Vec<Name>, AllocError>
     Ok(kept)
 }
 
-/// Why an entry that lies too deep is not copied.
-fn refuse_deep<T: Tree>(alloc: Global, tree: &mut T, at: &Path) -> Result<(), StageFault>
+/// Why an entry that lies more than 64 levels below its package's folder is not copied; it never answers Ok. `Limit`: it is a
+/// file or a folder, and its depth is told. `OtherEntry`: it is neither. `Vanished`: nothing is there any more.
+pub fn refuse_deep<T: Tree>(alloc: Global, tree: &mut T, at: &Path) -> Result<(), StageFault>
     requires there { OfTold (T.meaning tree.old) (λ t. is_some (entry_at t at.now) ≡ true) }
     ensures only_read { OnlyRead (T.meaning tree.old) (T.meaning tree.new) (is_device_fault result) }
     ensures answer { OfTold (T.meaning tree.old) (λ t. (left : ℕ) → Answers (deep_checked at.now (entry_at t at.now) left) left result) }

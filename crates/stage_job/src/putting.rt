@@ -72,8 +72,8 @@ fn take_entries(left: &mut Entries, names: &[Name]) -> bool
     }
 }
 
-/// The names of a folder, which are counted. None: nothing is there. `OtherEntry`: something else is. `Limit`: it has more
-/// names than may still be listed.
+/// The names of a folder, in byte order; they are taken off the entries that may still be listed. None: nothing is there.
+/// `OtherEntry`: something else than a folder is. `Limit`: it has more names than may still be listed, and none is taken off.
 pub fn list_names<T: Tree>(
     alloc: Global,
     tree: &mut T,
