@@ -104,7 +104,7 @@ module _ (pool : Pool) (before : List ℕ) (p : Package → Bool) where
       (chosen_packages_among pool before one.at one.party (among_in one.at before (ap (λ n. is_in n before) (sym same) ∙ has_in (length pool.candidates) 0 before one.at (sym (marked_has marks one.at) ∙ ap (is_marked marks) (sym same) ∙ one.mark)))
       (sym (get_map (λ candidate. candidate.«package») pool.candidates one.at) ∙ one.there)) one.passes
 
-  chosen_are : any_marked p marks 0 packages ≡ list_any p (chosen_packages pool before)
+  pub chosen_are : any_marked p marks 0 packages ≡ list_any p (chosen_packages pool before)
   chosen_are = both_true (any_marked p marks 0 packages) (list_any p (chosen_packages pool before)) back there
 
 module _ (rivals : Rivals) (pool : Pool) (before : List ℕ) (one : Candidate) (known : AreRivalsOf rivals pool) where

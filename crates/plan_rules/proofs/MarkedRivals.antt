@@ -140,7 +140,7 @@ module _ (marks : Chosen) where
         (marked_map number (λ link. record { number = number; party = party; way = way_by Replace link }) (λ link. refl) (filter (names name) party.replace))
         (marked_map number (λ link. record { number = number; party = party; way = way_by Provide link }) (λ link. refl) (filter (names name) party.provide)))
 
-    marked_offers : (p : Package → Bool) → ((number : ℕ) (party : Package) → list_any q (offers_by name number party) ≡ p party) → (number : ℕ) (list : List Package) → list_any among (offers_from name number list) ≡ any_marked p marks number list
+    pub marked_offers : (p : Package → Bool) → ((number : ℕ) (party : Package) → list_any q (offers_by name number party) ≡ p party) → (number : ℕ) (list : List Package) → list_any among (offers_from name number list) ≡ any_marked p marks number list
     marked_offers p same number [] = refl
     marked_offers p same number (party ∷ parties) = list_any-append among (offers_by name number party) (offers_from name (suc number) parties)
         ∙ rw (marked_by number party, same number party, marked_offers p same (suc number) parties) refl

@@ -44,7 +44,7 @@ module _ (need : Link) (party : Package) (number : ℕ) where
   or_assoc true b c = refl
   or_assoc false b c = refl
 
-  any_offer : list_any (is_met need) (offers_by need.name number party) ≡ meets need party
+  pub any_offer : list_any (is_met need) (offers_by need.name number party) ≡ meets need party
   unfolding meets
   any_offer = list_any-append (is_met need) (owners_of need.name number party) (linked need.name number party (way_by Replace) party.replace ++ linked need.name number party (way_by Provide) party.provide)
       ∙ ap (λ t. list_any (is_met need) (owners_of need.name number party) || t)
