@@ -1,19 +1,16 @@
 -- The rules in their order, found link by link, are the first broken one of a set.
 use Rattle.std.proofs.Common.{◌≡◌, ℕ, Bool, true, false, cond, List, [], ◌∷◌, ◌++◌, map, find, Option, Some, None, refl, sym, ap, ◌∙◌}
 use Rattle.std.specs.Prelude.{option_map}
-use Rattle.std.specs.List.{flat_map}
 use Rattle.std.specs.Option.{option_or}
 use Rattle.manifest_read.specs.declared.types.Link.{Link}
-use Rattle.manifest_read.specs.declared.types.Manifest.{Manifest}
 use Rattle.manifest_read.specs.declared.types.Package.{Package}
 use Rattle.pkg_pool.specs.declared.pool.Pool.{Pool}
-use Rattle.plan_rules.specs.declared.facts.Kind.{Kind}
-use Rattle.plan_rules.specs.declared.facts.Kind.TheVariants.{Unmet, Conflict, Platform}
+use Rattle.plan_rules.specs.declared.facts.Kind.TheVariants.{Unmet, Platform}
 use Rattle.plan_rules.specs.declared.rule.Rule.{Rule}
 use Rattle.plan_rules.specs.declared.rule.Rule.TheVariants as rules
 use Rattle.plan_rules.specs.Sets.{Chosen}
-use Rattle.plan_rules.specs.Validity.{members, parties, first_rule, not_allowed, two_owners, links_of, requirements, is_unmet, unmet, conflict_rule, conflict, is_barred, platform, first_broken}
-use Rattle.plan_rules.specs.Breaking.{rule_of, rule_of_package, links_for, required_rule, conflicting_rule, links_rule, packages_rule, allowed_rule}
+use Rattle.plan_rules.specs.Validity.{members, parties, first_rule, two_owners, links_of, requirements, is_unmet, unmet, conflict_rule, conflict, is_barred, platform, first_broken}
+use Rattle.plan_rules.specs.Breaking.{required_rule, conflicting_rule, packages_rule, allowed_rule}
 
 or_assoc : {X : Type 0} (a b c : Option X) → option_or a (option_or b c) ≡ option_or (option_or a b) c
 or_assoc None b c = refl

@@ -1,15 +1,14 @@
 -- What it means that a set breaks no rule, rule by rule.
-use Rattle.std.proofs.Common.{◌≡◌, ℕ, zero, suc, ◌+◌, ◌<◌, ◌≤◌, Bool, true, false, cond, not, List, [], ◌∷◌, ◌++◌, length, map, filter, find, Option, Some, None, refl, sym, ap, subst, ◌∙◌, arith, inl, inr}
+use Rattle.std.proofs.Common.{◌≡◌, ℕ, zero, suc, ◌≤◌, Bool, true, false, cond, not, List, [], ◌∷◌, length, map, filter, find, Option, Some, None, refl, sym, ap, subst, ◌∙◌, arith, inl, inr}
 use Rattle.std.specs.Prelude.{◌⊎◌, ◌&&◌, ◌||◌, is_none, is_some, option_map}
 use Rattle.std.specs.List.{list_any, list_all, flat_map}
 use Rattle.std.specs.Option.{option_or, option_and_then}
 use Rattle.std.specs.Ordering.{is_le, ordering_reverse}
-use Rattle.std.specs.Cmp.{IsTotalOrder}
 use Rattle.std.specs.declared.cmp.Ordering.{Ordering}
 use Rattle.std.specs.declared.cmp.Ordering.TheVariants.{Less, Equal, Greater}
 use Rattle.std.specs.Cmp.Lexicographic.{same_text}
 use Rattle.std.proofs.lemmas.Bool.{false≢true}
-use Rattle.path_name.specs.Orders.{byte_cmp, byte_cmp_total, bytes_are_equal}
+use Rattle.path_name.specs.Orders.{byte_cmp, byte_cmp_total}
 use Rattle.manifest_read.specs.declared.types.Package.{Package}
 use Rattle.manifest_read.specs.declared.types.Link.{Link}
 use Rattle.pkg_pool.specs.Stability.{is_allowed}
@@ -17,11 +16,10 @@ use Rattle.pkg_pool.specs.declared.pool.Pool.{Pool}
 use Rattle.pkg_pool.specs.declared.pool.Candidate.{Candidate}
 use Rattle.plan_rules.specs.declared.rule.Rule.{Rule}
 use Rattle.plan_rules.specs.declared.rule.Rule.TheVariants as rules
-use Rattle.plan_rules.specs.Sets.{Chosen, IsWithin, has}
+use Rattle.plan_rules.specs.Sets.{Chosen}
 use Rattle.plan_rules.specs.Requirements.{owns, names, replaces, takes}
 use Rattle.plan_rules.specs.Validity.{members, parties, first_rule, not_allowed, taken_names, takers, least, rule_of_takers, has_two, two_owners, links_of, requirements, is_unmet, unmet, against, conflict_rule, conflict, is_barred, platform, first_broken, is_valid}
 use Rattle.plan_rules.proofs.Lists.{Among, find_none, none_found, among_any, among_filter, filter_empty, filter_among, map_among, flat_map_among, count, counted, length_filter}
-use Rattle.plan_rules.proofs.SetMembers.{parties_within, parties_count, members_count}
 
 -- A set breaks no rule.
 pub record Keeps (pool : Pool) (set : Chosen) : Type 0 where

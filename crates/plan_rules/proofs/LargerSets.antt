@@ -1,7 +1,6 @@
 -- Rules that a larger set breaks wherever a smaller one does.
-use Rattle.std.proofs.Common.{◌≡◌, ℕ, ◌≤◌, Bool, true, false, not, List, [], ◌∷◌, find, Option, Some, None, refl, sym, ap, ◌∙◌, arith}
+use Rattle.std.proofs.Common.{◌≡◌, true, not, find, None, ap, arith}
 use Rattle.std.specs.Prelude.{option_map}
-use Rattle.manifest_read.specs.declared.types.Link.{Link}
 use Rattle.pkg_pool.specs.Stability.{is_allowed}
 use Rattle.pkg_pool.specs.declared.pool.Pool.{Pool}
 use Rattle.plan_rules.specs.declared.rule.Rule.TheVariants as rules

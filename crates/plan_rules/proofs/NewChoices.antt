@@ -1,10 +1,10 @@
 -- The choices of a plan are distinct.
-use Rattle.std.proofs.Common.{◌≡◌, ℕ, zero, suc, ◌+◌, ◌<◌, ◌≤◌, Bool, true, false, List, [], ◌∷◌, ◌++◌, length, refl, sym, ap, subst, ◌∙◌, append_assoc, arith, inl, inr}
-use Rattle.std.specs.Prelude.{◌⊎◌, ◌==◌, ◌||◌}
+use Rattle.std.proofs.Common.{◌≡◌, ℕ, zero, suc, ◌+◌, ◌≤◌, Bool, true, false, List, [], ◌∷◌, ◌++◌, length, refl, sym, ap, subst, ◌∙◌, append_assoc, arith}
+use Rattle.std.specs.Prelude.{◌==◌, ◌||◌}
 use Rattle.std.proofs.lemmas.Bool.{false≢true}
 use Rattle.pkg_pool.specs.declared.pool.Pool.{Pool}
 use Rattle.plan_rules.specs.Sets.{is_in, AreDistinct}
-use Rattle.plan_rules.specs.FirstChoice.{AreFirst, IsFirst}
+use Rattle.plan_rules.specs.FirstChoice.{AreFirst}
 use Rattle.plan_rules.proofs.FirstChoices.{in_middle, in_more, missing, missing_less}
 use Rattle.plan_rules.proofs.Plans.{below, fresh}
 

@@ -1,5 +1,5 @@
 -- What the offers of a name say of its packages.
-use Rattle.std.proofs.Common.{◌≡◌, ℕ, suc, ◌+◌, ◌<◌, ◌≤◌, Bool, true, false, cond, not, List, [], ◌∷◌, ◌++◌, map, filter, find, Option, Some, None, refl, sym, ap, ◌∙◌, arith}
+use Rattle.std.proofs.Common.{◌≡◌, ℕ, suc, ◌<◌, Bool, true, false, cond, not, List, [], ◌∷◌, ◌++◌, map, filter, find, Option, Some, None, refl, ap, ◌∙◌, arith}
 use Rattle.std.specs.Prelude.{◌||◌, ◌&&◌, ◌==◌, option_map}
 use Rattle.std.specs.List.{list_any}
 use Rattle.std.specs.Option.{option_or, option_and_then}
@@ -12,10 +12,9 @@ use Rattle.manifest_read.specs.declared.types.Package.{Package}
 use Rattle.plan_rules.specs.declared.index.LinkKind.TheVariants.{Replace, Provide}
 use Rattle.plan_rules.specs.declared.rule.Rule.{Rule}
 use Rattle.plan_rules.specs.declared.rule.Rule.TheVariants as rules
-use Rattle.plan_rules.specs.declared.offers.Offer.{Offer}
-use Rattle.plan_rules.specs.Requirements.{owns, names, replaces, takes, owns_as_wanted, stands_for, replaces_as_wanted, provides_as_wanted, meets}
+use Rattle.plan_rules.specs.Requirements.{owns, names, takes, owns_as_wanted, stands_for, replaces_as_wanted, provides_as_wanted, meets}
 use Rattle.plan_rules.specs.Validity.{takers, rule_of_takers, is_against}
-use Rattle.plan_rules.specs.Offers.{Way, Offered, Owning, Replacing, Providing, shown, way_by, owners_of, linked, offers_by, offers_from, is_met, takes_so, is_taking, is_taking_beside, is_other_taker, two_takers, rule_of_offers}
+use Rattle.plan_rules.specs.Offers.{Way, Offered, Owning, Replacing, Providing, way_by, owners_of, linked, offers_by, offers_from, is_met, is_taking, is_taking_beside, is_other_taker, rule_of_offers}
 
 -- ---- what meets a requirement
 

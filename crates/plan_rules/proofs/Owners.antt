@@ -1,7 +1,6 @@
 -- The first name of an index that two packages take is the byte-least one.
-use Rattle.std.proofs.Common.{◌≡◌, ℕ, suc, ◌+◌, ◌<◌, ◌≤◌, Bool, true, false, cond, not, List, [], ◌∷◌, ◌++◌, length, map, filter, find, Option, Some, None, Vec, refl, sym, ap, subst, ◌∙◌, arith, inl, inr}
-use Rattle.std.specs.Prelude.{◌⊎◌, ◌&&◌, is_some, option_map}
-use Rattle.std.specs.Global.{Global}
+use Rattle.std.proofs.Common.{◌≡◌, ℕ, Bool, true, false, cond, List, [], ◌∷◌, filter, Option, Some, None, refl, sym, ap, ◌∙◌, arith, inl, inr}
+use Rattle.std.specs.Prelude.{◌&&◌, is_some, option_map}
 use Rattle.std.specs.List.{list_all, flat_map, AllByRecursion}
 use Rattle.std.specs.List.Sorted.{IsStrictlySortedBy}
 use Rattle.std.specs.Map.{keys_of, lookup}
@@ -14,7 +13,6 @@ use Rattle.std.proofs.lemmas.Bool.{false≢true}
 use Rattle.path_name.specs.Orders.{byte_cmp, byte_cmp_total, byte_cmp_exact}
 use Rattle.manifest_read.specs.declared.types.Package.{Package}
 use Rattle.plan_rules.specs.declared.rule.Rule.{Rule}
-use Rattle.plan_rules.specs.declared.offers.Offer.{Offer}
 use Rattle.plan_rules.specs.Requirements.{takes}
 use Rattle.plan_rules.specs.Validity.{first_rule, taken_names, takers, least, rule_of_takers, has_two, two_owners}
 use Rattle.plan_rules.specs.Offers.{Offered, offers_from, rule_of_offers}

@@ -1,5 +1,5 @@
 -- Candidates by name and place: an entry that is put into a map of them stands where its name has it.
-use Rattle.std.proofs.Common.{◌≡◌, ℕ, suc, ◌+◌, ◌<◌, ◌≤◌, Bool, true, false, cond, List, [], ◌∷◌, map, refl, sym, ap, ◌∙◌, arith, Bor}
+use Rattle.std.proofs.Common.{◌≡◌, ℕ, ◌+◌, ◌<◌, cond, List, [], ◌∷◌, map, refl, ap, ◌∙◌, arith, Bor}
 use Rattle.std.specs.Prelude.{⊤}
 use Rattle.std.specs.Map.{values_of}
 use Rattle.std.specs.Ordering.{nat_cmp, ordering_then, is_lt, match_ordering}
@@ -8,7 +8,7 @@ use Rattle.std.specs.declared.cmp.Ordering.TheVariants.{Less, Equal, Greater}
 use Rattle.std.specs.BTreeMap.{insert_entry}
 use Rattle.path_name.specs.Orders.{byte_cmp}
 use Rattle.pkg_pool.specs.declared.pool.Candidate.{Candidate}
-use Rattle.plan_rules.specs.Validity.{put, by_name}
+use Rattle.plan_rules.specs.Validity.{put}
 
 abbrev pub Entry : Type 0
 Entry = (List ℕ × ℕ) × Bor Candidate

@@ -1,5 +1,5 @@
 -- The members of a set, in byte order of name.
-use Rattle.std.proofs.Common.{◌≡◌, ℕ, zero, suc, ◌+◌, ◌<◌, ◌≤◌, Bool, true, false, cond, List, [], ◌∷◌, ◌++◌, length, map, Option, Some, None, refl, sym, ap, subst, ◌∙◌, arith, inl, inr}
+use Rattle.std.proofs.Common.{◌≡◌, ℕ, zero, suc, ◌+◌, ◌≤◌, Bool, true, false, cond, List, [], ◌∷◌, map, Option, Some, None, refl, ap, subst, ◌∙◌, arith, inl, inr}
 use Rattle.std.specs.Prelude.{◌⊎◌, option_map}
 use Rattle.std.specs.List.{slice_get}
 use Rattle.std.specs.Ordering.{is_lt}
@@ -11,7 +11,7 @@ use Rattle.pkg_pool.specs.declared.pool.Candidate.{Candidate}
 use Rattle.plan_rules.specs.Sets.{Chosen, has, IsWithin}
 use Rattle.plan_rules.specs.Validity.{chosen, put, by_name, members, parties}
 use Rattle.plan_rules.specs.Preference.{package_at}
-use Rattle.plan_rules.proofs.Lists.{Among, among_left, map_among, among_map, count, count_map}
+use Rattle.plan_rules.proofs.Lists.{Among, map_among, among_map, count, count_map}
 
 -- ---- the candidates of a set
 

@@ -1,20 +1,18 @@
 -- What a set keeps of a larger valid one.
-use Rattle.std.proofs.Common.{◌≡◌, ℕ, zero, suc, ◌+◌, ◌<◌, ◌≤◌, Bool, true, false, cond, not, List, [], ◌∷◌, ◌++◌, length, map, find, Option, Some, None, refl, sym, ap, subst, ◌∙◌, arith, inl, inr}
+use Rattle.std.proofs.Common.{◌≡◌, ℕ, false, not, List, ◌++◌, map, find, Option, Some, None, refl, ap, subst, arith, inl, inr}
 use Rattle.std.specs.Prelude.{◌⊎◌, ◌&&◌, option_map}
-use Rattle.std.specs.List.{list_any, flat_map, slice_get}
 use Rattle.std.specs.Option.{option_or}
-use Rattle.std.proofs.lemmas.Bool.{false≢true}
 use Rattle.path_name.specs.Orders.{bytes_are_equal}
 use Rattle.manifest_read.specs.declared.types.Package.{Package}
 use Rattle.manifest_read.specs.declared.types.Link.{Link}
 use Rattle.manifest_read.specs.declared.types.PlatformRow.{PlatformRow}
 use Rattle.pkg_pool.specs.declared.pool.Pool.{Pool}
 use Rattle.pkg_pool.specs.declared.pool.Candidate.{Candidate}
-use Rattle.plan_rules.specs.Sets.{Chosen, IsWithin, has}
+use Rattle.plan_rules.specs.Sets.{Chosen, IsWithin}
 use Rattle.plan_rules.specs.Requirements.{takes}
 use Rattle.plan_rules.specs.Validity.{members, parties, links_of, requirements, is_unmet, is_against, is_listed_as, against}
-use Rattle.plan_rules.proofs.Lists.{Among, among_left, among_right, among_either, among_map, map_among, among_flat_map, flat_map_among, find_none, none_found, count}
-use Rattle.plan_rules.proofs.SetMembers.{IsAt, among_members, members_among, parties_within, parties_count}
+use Rattle.plan_rules.proofs.Lists.{Among, among_left, among_right, among_either, among_map, map_among, among_flat_map, flat_map_among, find_none, none_found}
+use Rattle.plan_rules.proofs.SetMembers.{among_members, members_among, parties_within, parties_count}
 use Rattle.plan_rules.proofs.KeptRules.{Keeps}
 
 pub members_within : (pool : Pool) (small large : Chosen) (one : Candidate) → IsWithin small large → Among one (members pool small) → Among one (members pool large)

@@ -1,5 +1,5 @@
 -- Choices among numbered candidates, one need after the other, whatever makes a set of them valid.
-use Rattle.std.specs.Prelude.{◌≡◌, ℕ, zero, suc, ◌<◌, List, [], ◌∷◌, ◌++◌, Bool, true, false, ◌==◌, ◌||◌, ◌&&◌, ⊤}
+use Rattle.std.specs.Prelude.{◌≡◌, ℕ, zero, suc, List, [], ◌∷◌, Bool, true, false, ◌==◌, ◌||◌, ◌&&◌, ⊤}
 
 -- A set of candidates: of each number, whether its candidate belongs to it.
 abbrev pub Chosen : Type 0

@@ -1,12 +1,11 @@
 -- Which sets of candidates are valid, and the first rule that one breaks (Composer's documentation, "The composer.json
 -- schema", "Package links", "config", "platform").
-use Rattle.std.specs.Prelude.{ℕ, zero, suc, ◌+◌, List, [], ◌∷◌, ◌++◌, length, take, map, filter, find, Bool, true, false, not, ◌&&◌, ◌||◌, Option, Some, None, is_some, is_none, option_map, if◌then◌else◌}
+use Rattle.std.specs.Prelude.{ℕ, List, [], ◌∷◌, ◌++◌, map, filter, find, Bool, false, not, ◌&&◌, ◌||◌, Option, Some, None, is_some, is_none, option_map, if◌then◌else◌}
 use Rattle.std.specs.List.{list_any, list_all, flat_map}
 use Rattle.std.specs.Option.{option_or, option_and_then, option_map_or}
 use Rattle.std.specs.Ordering.{is_lt, is_le}
 use Rattle.path_name.specs.Orders.{byte_cmp, bytes_are_equal}
 use Rattle.constraint_set.specs.Satisfaction.{satisfies}
-use Rattle.version_norm.specs.declared.version.Version.{Version}
 use Rattle.manifest_read.specs.declared.types.Link.{Link}
 use Rattle.manifest_read.specs.declared.types.Package.{Package}
 use Rattle.manifest_read.specs.declared.types.PlatformRow.{PlatformRow}
@@ -17,7 +16,7 @@ use Rattle.plan_rules.specs.declared.rule.Rule.{Rule}
 use Rattle.plan_rules.specs.declared.rule.Rule.TheVariants as rules
 use Rattle.plan_rules.specs.declared.rule.Verdict.{Verdict}
 use Rattle.plan_rules.specs.declared.rule.Verdict.TheVariants as verdicts
-use Rattle.plan_rules.specs.Sets.{Chosen, has}
+use Rattle.plan_rules.specs.Sets.{Chosen}
 use Rattle.plan_rules.specs.Requirements.{owns_as_wanted, replaces_as_wanted, takes, meets, is_on_package}
 
 -- ---- the members of a set

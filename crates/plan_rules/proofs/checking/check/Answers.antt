@@ -1,6 +1,5 @@
 use Rattle.std.proofs.Common.{◌≡◌, ◌∙◌, ap, sym, map, length, ℕ, List, [], ◌∷◌, refl, Bor}
 use Rattle.std.specs.Option.{option_or, option_map_or}
-use Rattle.manifest_read.specs.declared.types.Package.{Package}
 use Rattle.pkg_pool.specs.declared.pool.Candidate.{Candidate}
 use Rattle.pkg_pool.specs.declared.pool.Pool.{Pool}
 use Rattle.plan_rules.specs.declared.rule.Verdict.TheVariants as verdicts

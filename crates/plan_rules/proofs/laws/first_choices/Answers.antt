@@ -1,13 +1,8 @@
-use Rattle.std.proofs.Common.{rules, ◌≡◌, ◌⊎◌, ℕ, List, [], ◌∷◌, ◌++◌, length, true, false, Bool, Option, Some, None, refl, ap, sym, subst, inl, inr}
-use Rattle.std.specs.Cmp.{IsTotalOrder}
-use Rattle.std.specs.Ordering.{is_lt, ordering_reverse}
-use Rattle.std.specs.declared.cmp.Ordering.{Ordering}
-use Rattle.std.specs.declared.cmp.Ordering.TheVariants.{Less, Equal, Greater}
+use Rattle.std.proofs.Common.{ℕ, List, [], ◌∷◌, ◌++◌, length}
 use Rattle.pkg_pool.specs.declared.pool.Pool.{Pool}
-use Rattle.plan_rules.specs.Sets.{Chosen, set_of}
 use Rattle.plan_rules.specs.Validity.{is_valid}
-use Rattle.plan_rules.specs.Preference.{is_alternative, is_preferred, preference}
-use Rattle.plan_rules.specs.FirstChoice.{first_unmet, AreFirst, IsFirst, IsFirstChoice}
+use Rattle.plan_rules.specs.Preference.{is_alternative, is_preferred}
+use Rattle.plan_rules.specs.FirstChoice.{first_unmet, AreFirst}
 use Rattle.plan_rules.proofs.FirstChoices as choices
 use Rattle.plan_rules.proofs.Plans.{below, met, fresh, done}
 use Rattle.plan_rules.proofs.PreferenceOrder.{one_preferred, preferred_on, not_preferred_itself}

@@ -5,7 +5,7 @@ use Rattle.std.proofs.lemmas.Result.{IfOk-weaker}
 use Rattle.path_name.specs.Orders.{byte_cmp}
 use Rattle.plan_rules.specs.declared.offers.Offer.{Offer}
 use Rattle.plan_rules.specs.Validity.{first_rule, two_owners}
-use Rattle.plan_rules.specs.Offers.{Offered, shown, rule_of_offers}
+use Rattle.plan_rules.specs.Offers.{shown, rule_of_offers}
 use Rattle.plan_rules.proofs.Owners.{owners_found}
 use Rattle.plan_rules.proofs.index.Index.two_owners.Goals as goal
 
