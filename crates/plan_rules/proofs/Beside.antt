@@ -4,6 +4,7 @@ use Rattle.std.specs.Prelude.{◌&&◌, ◌||◌, option_map}
 use Rattle.std.specs.List.{list_any, slice_get}
 use Rattle.std.specs.Option.{unwrap_or}
 use Rattle.std.proofs.lemmas.Bool.{false≢true}
+use Rattle.std.proofs.lemmas.Option.{slice_get-map}
 use Rattle.manifest_read.specs.declared.types.Package.{Package}
 use Rattle.pkg_pool.specs.Stability.{is_allowed}
 use Rattle.pkg_pool.specs.declared.pool.Pool.{Pool}
@@ -42,11 +43,6 @@ marked_has : (marks : Chosen) (number : ℕ) → is_marked marks number ≡ has 
 marked_has [] number = refl
 marked_has (mark ∷ others) zero = refl
 marked_has (mark ∷ others) (suc number) = marked_has others number
-
-get_map : {X Y : Type 0} (f : X → Y) (xs : List X) (number : ℕ) → slice_get (map f xs) number ≡ option_map f (slice_get xs number)
-get_map f [] number = refl
-get_map f (x ∷ xs) zero = refl
-get_map f (x ∷ xs) (suc number) = get_map f xs number
 
 first_is : (x y : Package) → Some x ≡ Some y → x ≡ y
 first_is x y e = cc
@@ -93,7 +89,7 @@ module _ (pool : Pool) (before : List ℕ) (p : Package → Bool) where
   there e =
       let one = among_any p (chosen_packages pool before) e in
       let at = among_chosen_packages pool before one.0 one.1 in
-      marked_here p marks 0 at.0 packages one.0 (get_map (λ candidate. candidate.«package») pool.candidates at.0 ∙ at.2)
+      marked_here p marks 0 at.0 packages one.0 (slice_get-map (λ candidate. candidate.«package») pool.candidates at.0 ∙ at.2)
       (ap (is_marked marks) (omega arith) ∙ marked_has marks at.0 ∙ has_one (length pool.candidates) before at.0 (package_in_range pool at.0 one.0 at.2) (in_among at.0 before at.1)) one.2
 
   back : any_marked p marks 0 packages ≡ true → list_any p (chosen_packages pool before) ≡ true
@@ -102,7 +98,7 @@ module _ (pool : Pool) (before : List ℕ) (p : Package → Bool) where
       let same : 0 + one.at ≡ one.at = omega arith in
       any_among p (chosen_packages pool before) one.party
       (chosen_packages_among pool before one.at one.party (among_in one.at before (ap (λ n. is_in n before) (sym same) ∙ has_in (length pool.candidates) 0 before one.at (sym (marked_has marks one.at) ∙ ap (is_marked marks) (sym same) ∙ one.mark)))
-      (sym (get_map (λ candidate. candidate.«package») pool.candidates one.at) ∙ one.there)) one.passes
+      (sym (slice_get-map (λ candidate. candidate.«package») pool.candidates one.at) ∙ one.there)) one.passes
 
   pub chosen_are : any_marked p marks 0 packages ≡ list_any p (chosen_packages pool before)
   chosen_are = both_true (any_marked p marks 0 packages) (list_any p (chosen_packages pool before)) back there
@@ -117,7 +113,7 @@ module _ (rivals : Rivals) (pool : Pool) (before : List ℕ) (one : Candidate) (
   ) refl
 
   alone_is : (number : ℕ) → slice_get pool.candidates number ≡ Some one → is_marked rivals.alone.items number ≡ fits_alone pool.root one
-  alone_is number found = ap (λ items. is_marked items number) known.alone ∙ ap (λ o. unwrap_or o false) (get_map (fits_alone pool.root) pool.candidates number ∙ ap (option_map (fits_alone pool.root)) found)
+  alone_is number found = ap (λ items. is_marked items number) known.alone ∙ ap (λ o. unwrap_or o false) (slice_get-map (fits_alone pool.root) pool.candidates number ∙ ap (option_map (fits_alone pool.root)) found)
 
   pub fits_are : (number : ℕ) → slice_get pool.candidates number ≡ Some one → fits_in rivals (set_of (length pool.candidates) before) number one ≡ fits pool before one
   unfolding fits

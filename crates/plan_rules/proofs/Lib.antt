@@ -17,3 +17,6 @@ pub mod FitsBeside
 pub mod MarkedRivals
 pub mod Beside
 pub mod RootAlone
+pub mod FirstOffers
+pub mod Ranking
+pub mod LinkNames

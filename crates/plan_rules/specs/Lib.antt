@@ -7,3 +7,6 @@ pub mod Offers
 pub mod Breaking
 pub mod Fitting
 pub mod Rivals
+pub mod VersionOrder
+pub mod Ranks
+pub mod RankOrder

@@ -1,12 +1,16 @@
 //! Laws of the definitions that the contracts cite.
 
-ghost use Rattle.std.specs.Prelude.{◌≡◌, ◌≢◌, ◌≤◌, ℕ, List, [], ◌∷◌, ◌++◌, length, true, false, Bool, Some, None};
+ghost use Rattle.std.specs.Prelude.{◌≡◌, ◌≢◌, ◌≤◌, ℕ, List, [], ◌∷◌, ◌++◌, length, true, false, not, Bool, Some, None};
+ghost use Rattle.version_norm.specs.declared.version.Version.{Version};
 ghost use Rattle.manifest_read.specs.declared.types.Link.{Link};
+ghost use Rattle.manifest_read.specs.Names.{is_package_name, is_platform_name};
+ghost use Rattle.manifest_read.specs.WellFormed.{IsLink};
 ghost use Rattle.std.specs.List.{slice_get};
 ghost use Rattle.pkg_pool.specs.declared.pool.Pool.{Pool};
 ghost use Rattle.pkg_pool.specs.declared.pool.Candidate.{Candidate};
 ghost use Rattle.plan_rules.specs.Fitting.{BreaksNone, fits};
 ghost use Rattle.plan_rules.specs.Sets.{Chosen, IsWithin, AreDistinct, has_all, is_in};
+ghost use Rattle.plan_rules.specs.Requirements.{is_on_package};
 ghost use Rattle.plan_rules.specs.Validity.{members, parties, not_allowed, two_owners, unmet, conflict, platform, is_valid};
 ghost use Rattle.plan_rules.specs.Preference.{is_alternative, is_preferred};
 ghost use Rattle.plan_rules.specs.FirstChoice.{Extends, IsFirstChoice, first_unmet};
@@ -64,4 +68,10 @@ pub fn fitting()
         is_in number before ≡ false → BreaksNone pool before → fits pool before one ≡ true → BreaksNone pool (before ++ number ∷ []) }
     ensures fits { (pool : Pool) (before : List ℕ) (number : ℕ) (one : Candidate) → slice_get pool.candidates number ≡ Some one →
         is_in number before ≡ false → BreaksNone pool (before ++ number ∷ []) → fits pool before one ≡ true }
+{}
+
+/// A link that was read leads to a package where its name has a `/`, and to a platform package where it has none.
+pub fn link_names()
+    ensures packages { (own : Version) (link : Link) → IsLink own link → is_on_package link ≡ is_package_name link.name }
+    ensures platform { (own : Version) (link : Link) → IsLink own link → not (is_on_package link) ≡ is_platform_name link.name }
 {}

@@ -290,3 +290,50 @@ fn roots_alone(rt: HostRuntime) {
         assert_eq!(rt; root_fits_so(rt.alloc(), row), Some(true));
     }
 }
+
+fn digits_of(alloc: Global, numbers: &[u32]) -> Option<Vec<u8>> {
+    let mut digits = Vec::new(alloc);
+    for number in numbers {
+        digits
+            .push(u8::try_from(*number).ok()?.checked_add(b'0')?)
+            .ok()?;
+    }
+    Some(digits)
+}
+
+/// Whether these are the alternatives of the root's first requirement in order: the digits that a row has behind its pool.
+fn is_order(alloc: Global, row: &str) -> Option<bool> {
+    let (texts, wanted) = row.rsplit_once('|')?;
+    let pool = pool_of(alloc, texts)?;
+    let index = Index::of_pool(alloc, &pool).ok()?;
+    let need = pool.root.package.require.as_slice().first()?;
+    let numbers = alternatives(alloc, &pool, &index, need).ok()?;
+    let digits = digits_of(alloc, numbers.as_slice())?;
+    Some(digits.as_slice() == wanted.as_bytes())
+}
+
+static CHOICES: [&str; 16] = [
+    "{\"require\":{\"a/a\":\"*\"}}|{\"name\":\"a/a\",\"version\":\"1.0.0\"}|{\"name\":\"a/a\",\"version\":\"2.0.0\"}|{\"name\":\"a/a\",\"version\":\"1.5.0\"}|120",
+    "{\"require\":{\"a/a\":\"*\"},\"minimum-stability\":\"dev\"}|{\"name\":\"a/a\",\"version\":\"1.0.0\"}|{\"name\":\"a/a\",\"version\":\"2.0.0-beta1\"}|10",
+    "{\"require\":{\"a/a\":\"*\"},\"minimum-stability\":\"dev\",\"prefer-stable\":true}|{\"name\":\"a/a\",\"version\":\"1.0.0\"}|{\"name\":\"a/a\",\"version\":\"2.0.0-beta1\"}|01",
+    "{\"require\":{\"v/log\":\"*\"}}|{\"name\":\"a/x\",\"version\":\"1.0.0\",\"provide\":{\"v/log\":\"1.0\"}}|{\"name\":\"b/y\",\"version\":\"1.0.0\",\"replace\":{\"v/log\":\"1.0\"}}|10",
+    "{\"require\":{\"v/v\":\"*\"}}|{\"name\":\"b/y\",\"version\":\"1.0.0\",\"replace\":{\"v/v\":\"9.0\"}}|{\"name\":\"v/v\",\"version\":\"1.0.0\"}|10",
+    "{\"require\":{\"a/a\":\"*\"},\"minimum-stability\":\"dev\"}|{\"name\":\"a/a\",\"version\":\"dev-main\"}|{\"name\":\"a/a\",\"version\":\"1.0.0-alpha1\"}|10",
+    "{\"require\":{\"a/a\":\"*\"},\"minimum-stability\":\"dev\"}|{\"name\":\"a/a\",\"version\":\"dev-b\"}|{\"name\":\"a/a\",\"version\":\"dev-a\"}|10",
+    "{\"require\":{\"v/v\":\"*\"}}|{\"name\":\"b/b\",\"version\":\"1.0.0\",\"provide\":{\"v/v\":\"1.0\"}}|{\"name\":\"a/a\",\"version\":\"1.0.0\",\"provide\":{\"v/v\":\"1.0\"}}|10",
+    "{\"require\":{\"a/a\":\"*\"}}|{\"name\":\"a/a\",\"version\":\"1.0.0\"}|{\"name\":\"a/a\",\"version\":\"1.0.0\"}|01",
+    "{\"require\":{\"a/a\":\"^1\"}}|{\"name\":\"a/a\",\"version\":\"2.0.0\"}|{\"name\":\"a/a\",\"version\":\"1.0.0\"}|1",
+    "{\"require\":{\"a/a\":\"*\"}}|{\"name\":\"b/b\",\"version\":\"1.0.0\"}|",
+    "{\"require\":{\"a/a\":\"^2\"}}|{\"name\":\"a/a\",\"version\":\"1.0.0\",\"provide\":{\"a/a\":\"2.0\"}}|{\"name\":\"b/b\",\"version\":\"1.0.0\",\"replace\":{\"a/a\":\"2.0\"}}|01",
+    "{\"require\":{\"v/v\":\"*\"},\"minimum-stability\":\"dev\"}|{\"name\":\"a/a\",\"version\":\"2.0.0-beta1\",\"provide\":{\"v/v\":\"1.0\"}}|{\"name\":\"b/b\",\"version\":\"1.0.0\",\"provide\":{\"v/v\":\"1.0\"}}|01",
+    "{\"require\":{\"v/v\":\"*\"},\"minimum-stability\":\"dev\",\"prefer-stable\":true}|{\"name\":\"a/a\",\"version\":\"2.0.0-beta1\",\"provide\":{\"v/v\":\"1.0\"}}|{\"name\":\"b/b\",\"version\":\"1.0.0\",\"provide\":{\"v/v\":\"1.0\"}}|10",
+    "{\"require\":{\"v/v\":\"*\"}}|{\"name\":\"a/a\",\"version\":\"1.0.0\",\"replace\":{\"v/v\":\"1.0\"},\"provide\":{\"v/v\":\"1.0\"}}|0",
+    "{\"require\":{\"v/v\":\"^2\"}}|{\"name\":\"b/b\",\"version\":\"1.0.0\",\"provide\":{\"v/v\":\"2.0\"}}|{\"name\":\"a/a\",\"version\":\"1.0.0\",\"replace\":{\"v/v\":\"1.0\"},\"provide\":{\"v/v\":\"2.0\"}}|10",
+];
+
+#[test]
+fn alternatives_in_order(rt: HostRuntime) {
+    for row in &CHOICES {
+        assert_eq!(rt; is_order(rt.alloc(), row), Some(true));
+    }
+}
