@@ -12,3 +12,4 @@ pub mod Skipped
 pub mod Looked
 pub mod WalkedNames
 pub mod WalkedJobs
+pub mod NeverVanishes

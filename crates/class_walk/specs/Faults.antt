@@ -22,6 +22,16 @@ is_device_fault (Err (faults.OtherEntry path)) = false
 is_device_fault (Err (faults.Limit kind)) = false
 is_device_fault (Err (faults.Vanished path)) = false
 
+-- an entry was shown and then was gone
+abbrev pub is_vanished : {X : Type 0} → Result X WalkFault → Bool
+is_vanished (Ok x) = false
+is_vanished (Err (faults.Vanished path)) = true
+is_vanished (Err faults.DeviceFault) = false
+is_vanished (Err faults.OutOfMemory) = false
+is_vanished (Err (faults.ClassmapMissing path)) = false
+is_vanished (Err (faults.OtherEntry path)) = false
+is_vanished (Err (faults.Limit kind)) = false
+
 -- The fault is the one that is wanted. A fault of the device and want of memory may come at any place.
 abbrev pub Refuses : WalkFault → Result Walked WalkFault → Type 0
 Refuses faults.DeviceFault wanted = Unit {0}

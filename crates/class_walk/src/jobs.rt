@@ -6,7 +6,7 @@ ghost use Rattle.tree_dev.specs.Device.{OfTold, OnlyRead};
 ghost use Rattle.tree_dev.specs.declared.entry.Entry.TheVariants as entries;
 ghost use Rattle.class_walk.specs.Walks as walks;
 ghost use Rattle.class_walk.specs.Walks.{absent_walked, class_scan, file_walked, job_walked, lone_file_walked};
-ghost use Rattle.class_walk.specs.Faults.{Answers, Goes, Refuses, is_device_fault};
+ghost use Rattle.class_walk.specs.Faults.{Answers, Goes, Refuses, is_device_fault, is_vanished};
 ghost use Rattle.class_walk.specs.Searches.{IsFileAt, search_of};
 
 use crate::entry::{add_file, read_file};
@@ -42,6 +42,7 @@ pub fn walk<T: Tree>(
 ) -> Result<Vec<Scanned>, WalkFault>
     requires few { length jobs.now < 2 ^ 32 }
     ensures exact { OfTold (T.meaning tree.old) (λ t. Answers (class_scan t jobs.now exclude.now left.old.left) left.new.left result) }
+    ensures never_vanished { OfTold (T.meaning tree.old) (λ _. is_vanished result ≡ false) }
     ensures only_read { OnlyRead (T.meaning tree.old) (T.meaning tree.new) (is_device_fault result) }
     ensures entries_fall { left.new.left ≤ left.old.left }
 {

@@ -17,7 +17,7 @@ mod walking;
 pub use fault::WalkFault;
 pub use job::{Scanned, WalkJob, WalkRule};
 pub use jobs::walk;
-pub use laws::excluded_by_some_cutting;
+pub use laws::{excluded_by_some_cutting, scans_never_vanish};
 pub use pattern::{Pattern, PatternPart};
 
 #[cfg(test)]

@@ -1,6 +1,7 @@
 use Rattle.std.proofs.Common.{[], refl, ◌∙◌, arith}
 use Rattle.tree_dev.specs.Device.{only_read_on, only_read_refl}
 use Rattle.class_walk.specs.Walks.{class_scan}
+use Rattle.class_walk.proofs.NeverVanishes.{answer_stands, scan_stands}
 use Rattle.class_walk.proofs.WalkedJobs.{fault_answers, next_job, no_jobs_left, refused_job}
 use Rattle.class_walk.proofs.jobs.walk.Goals as goal
 
@@ -35,3 +36,7 @@ pub returns-clause-exact : goal.returns-clause-exact
 returns-clause-exact g c = λ tree told.
     let before = c.loop-number.invariant.goes tree told in
     (before.0, before.2 ∙ no_jobs_left tree c.args.exclude.now c.args.jobs.now c.loop-number.number before.0 (omega (arith, c.loop-number-test.false, c.loop-number.auto.number-end)), before.1)
+
+pub returns-in_err-walk_job-clause-never_vanished : goal.returns-in_err-walk_job-clause-never_vanished
+returns-in_err-walk_job-clause-never_vanished g c = λ tree told.
+    answer_stands _ _ _ (scan_stands tree c.args.jobs.now c.args.exclude.now c.args.left.now.left) (returns-in_err-walk_job-clause-exact g c tree told)
