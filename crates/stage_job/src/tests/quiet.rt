@@ -19,6 +19,7 @@ pub struct Quiet {
 }
 
 impl Quiet {
+    /// The device over a tree, and the path that it hides, if it hides one. No fault and no write is counted yet.
     pub fn over(tree: MemoryTree, hidden: Option<Path>) -> Quiet {
         Quiet {
             tree,
