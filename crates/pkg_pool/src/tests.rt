@@ -2,15 +2,14 @@ ghost use Rattle.std.specs.Prelude.{IfOk};
 ghost use Rattle.manifest_read.specs.WellFormed.{IsManifest};
 ghost use Rattle.manifest_read.specs.declared.types.Role.TheVariants.{Root};
 
+mod limits;
 mod rows;
+mod stabilities;
 
 use super::*;
 use manifest_read::{Manifest, Role, from_doc};
 use path_name::{Path, Text, push_number};
-use rows::{
-    Content, Put, Row, TWO_PACKAGES, pools_by_folder, pools_by_order, refused_manifests,
-    refused_urls,
-};
+use rows::{Content, Put, Row, pools_by_folder, pools_by_order, refused_manifests, refused_urls};
 use std::alloc::{AllocError, Global};
 use std::process::Abort;
 use std::test::Fail;
@@ -233,130 +232,5 @@ fn manifests(rt: HostRuntime) -> Result<(), Fail> {
     for row in &refused_manifests(rt.alloc())? {
         disturbed(&rt, rt.alloc(), row)?;
     }
-    Ok(())
-}
-
-/// A piece of text, so many times.
-fn repeated(alloc: Global, piece: &[u8], times: u32) -> Result<Vec<u8>, AllocError> {
-    let mut text = Vec::new(alloc);
-    for _ in 0..times {
-        text.extend_from_slice(piece)?;
-    }
-    Ok(text)
-}
-
-/// A first piece of text, a number, and a last piece.
-fn numbered(alloc: Global, first: &[u8], number: u32, last: &[u8]) -> Result<Vec<u8>, AllocError> {
-    let mut text = Vec::from_slice(alloc, first)?;
-    push_number(&mut text, number as u64)?;
-    text.extend_from_slice(last)?;
-    Ok(text)
-}
-
-fn put_file(
-    rt: &impl Abort,
-    alloc: Global,
-    tree: &mut MemoryTree,
-    path: &[u8],
-    text: &[u8],
-) -> Result<(), Fail> {
-    let file = Entry::File(Text::copy_of(alloc, text)?);
-    assert_eq!(rt;
-        tree.put(alloc, &Path::read(alloc, path)?, file)?,
-        Did::Done
-    );
-    Ok(())
-}
-
-/// Whether what is told of a pool over a tree begins so, for a url and so many entries that may be listed; and how many
-/// are left.
-fn begins(
-    rt: &impl Abort,
-    alloc: Global,
-    tree: &mut MemoryTree,
-    url: &[u8],
-    left: u32,
-    wanted: &[u8],
-) -> Result<u32, Fail> {
-    let mut root = Vec::from_slice(alloc, b"{\"repositories\":[{\"type\":\"path\",\"url\":\"")?;
-    root.extend_from_slice(url)?;
-    root.extend_from_slice(b"\"}]}")?;
-    let mut left = Entries { left };
-    let lines = told_over(alloc, tree, b".", root.as_slice(), &mut left)?;
-    assert!(rt; lines.as_slice().starts_with(wanted));
-    Ok(left.left)
-}
-
-#[test]
-fn entries(rt: HostRuntime) -> Result<(), Fail> {
-    let mut tree = tree_of(&rt, rt.alloc(), &TWO_PACKAGES)?;
-    let left = begins(
-        &rt,
-        rt.alloc(),
-        &mut tree,
-        b"p/*",
-        3,
-        b"x/y 1.0.0 p/a p/a 0\nacme/mail 1.0.0 p/b p/b 0\n",
-    )?;
-    assert_eq!(rt; left, 0);
-    begins(&rt, rt.alloc(), &mut tree, b"p/*", 2, b"entries")?;
-    Ok(())
-}
-
-#[test]
-fn depth(rt: HostRuntime) -> Result<(), Fail> {
-    let alloc = rt.alloc();
-    let mut tree = MemoryTree::new(alloc)?;
-    let mut path = repeated(alloc, b"d/", 64)?;
-    path.extend_from_slice(b"composer.json")?;
-    put_file(
-        &rt,
-        alloc,
-        &mut tree,
-        path.as_slice(),
-        b"{\"name\":\"d/d\"}",
-    )?;
-    let most = repeated(alloc, b"*/", 64)?;
-    begins(
-        &rt,
-        alloc,
-        &mut tree,
-        most.as_slice(),
-        1000,
-        b"d/d dev-main d/d/",
-    )?;
-    let more = repeated(alloc, b"*/", 65)?;
-    begins(&rt, alloc, &mut tree, more.as_slice(), 1000, b"depth d/d/")?;
-    Ok(())
-}
-
-/// Puts packages of one name in a tree, with numbers as their versions.
-fn put_versions(
-    rt: &impl Abort,
-    alloc: Global,
-    tree: &mut MemoryTree,
-    from: u32,
-    to: u32,
-) -> Result<(), Fail> {
-    for number in from..to {
-        let path = numbered(alloc, b"p/", number, b"/composer.json")?;
-        let text = numbered(
-            alloc,
-            b"{\"name\":\"x/y\",\"version\":\"1.0.",
-            number,
-            b"\"}",
-        )?;
-        put_file(rt, alloc, tree, path.as_slice(), text.as_slice())?;
-    }
-    Ok(())
-}
-
-#[test]
-fn candidates(rt: HostRuntime) -> Result<(), Fail> {
-    let mut tree = MemoryTree::new(rt.alloc())?;
-    put_versions(&rt, rt.alloc(), &mut tree, 0, 512)?;
-    begins(&rt, rt.alloc(), &mut tree, b"p/*", 1000, b"x/y 1.0.")?;
-    put_versions(&rt, rt.alloc(), &mut tree, 512, 513)?;
-    begins(&rt, rt.alloc(), &mut tree, b"p/*", 1000, b"candidates x/y")?;
     Ok(())
 }

@@ -279,6 +279,7 @@ pub fn pools_by_folder(alloc: Global) -> Result<Vec<Row>, Fail> {
     Ok(rows)
 }
 
+/// Which urls are refused, and with which path or text.
 pub fn refused_urls(alloc: Global) -> Result<Vec<Row>, Fail> {
     let mut rows = Vec::new(alloc);
     rows.push(telling(b".", GONE, &NOTHING, b"missing gone"))?;
