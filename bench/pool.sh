@@ -40,7 +40,7 @@ use std::alloc::Global;
 use std::io;
 use std::rt::Clock;
 use std::time::Instant;
-use tree_dev::{ENTRIES, Entries, Tree};
+use tree_dev::{Entries, Tree};
 use tree_std::FolderTree;
 
 const ROOT: &[u8] = b"{\"repositories\":[{\"type\":\"path\",\"url\":\"packages/*\"}]}";
@@ -58,7 +58,7 @@ fn run<T: Tree>(rt: &(impl Clock + Print), alloc: Global, tree: &mut T) -> io::R
     };
     manifests_have_paths(&root);
     let project = Path::root(alloc);
-    let mut left = Entries { left: ENTRIES };
+    let mut left = Entries { left: 1_000_000 };
     let start = Instant::now(rt)?;
     let loaded = load(alloc, tree, &project, root, &mut left);
     let took = start.elapsed(rt)?.as_micros();

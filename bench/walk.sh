@@ -43,7 +43,7 @@ use std::io;
 use std::io::ErrorKind;
 use std::rt::Clock;
 use std::time::Instant;
-use tree_dev::{ENTRIES, Entries, Tree};
+use tree_dev::{Entries, Tree};
 use tree_std::FolderTree;
 
 fn failed() -> io::Error {
@@ -73,7 +73,7 @@ fn names_of(found: &[Scanned]) -> u64 {
 fn run<T: Tree>(rt: &(impl Clock + Print), alloc: Global, tree: &mut T) -> io::Result<()> {
     let job = job(alloc)?;
     let start = Instant::now(rt)?;
-    let mut left = Entries { left: ENTRIES };
+    let mut left = Entries { left: 1_000_000 };
     let Ok(found) = walk(alloc, tree, &[job], &[], &mut left) else {
         println!(rt; "refused")?;
         return Ok(());
