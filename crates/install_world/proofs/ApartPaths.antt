@@ -51,7 +51,7 @@ not_greater Equal e = refl
 not_greater Greater e = refl
 
 -- where the first does not stand before the second, the second does not stand behind the first
-up_to : (first second : List (List ℕ)) → is_lt (path_cmp first second) ≡ false → IsLeBy path_cmp second first
+pub up_to : (first second : List (List ℕ)) → is_lt (path_cmp first second) ≡ false → IsLeBy path_cmp second first
 up_to first second e = subst (λ order. is_gt order ≡ false) (sym (path_cmp_total.antisymm second first)) (not_greater (path_cmp first second) e)
 
 not_both : (b : Bool) → b ≡ false → b ≡ true → ⊥

@@ -3,8 +3,10 @@ pub mod Cuts
 pub mod Finished
 pub mod FirstLine
 pub mod FlightLaws
+pub mod FoldersInOrder
 pub mod Grammar
 pub mod GrammarLines
+pub mod LeavesGone
 pub mod LineWords
 pub mod OneJournal
 pub mod JournalEnds
@@ -15,10 +17,13 @@ pub mod PartMoves
 pub mod PartPaths
 pub mod PathBytes
 pub mod Places
+pub mod PlacesFree
 pub mod ReadJournal
 pub mod ReadTargets
+pub mod RecoveryFits
 pub mod RecoveryRules
 pub mod RemovalRules
+pub mod RoomMade
 pub mod Segments
 pub mod TargetLines
 pub mod WayMoves

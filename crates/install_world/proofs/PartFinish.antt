@@ -150,11 +150,6 @@ shows_folder t at kind is folder = by (entry_at t at) refl
     by (Some entries.Folder) e = is ∙ ap kind_of e
     by (Some entries.Other) e = let other : is_folder (entry_at t at) ≡ false = ap is_folder e in absurd cc
 
--- the folder above a target
-pub parent_there : (t : FileTree) (project target whole parent : List (List ℕ)) (found : Option (List (List ℕ))) → whole ≡ project ++ target
-    → found ≡ without_last whole → found ≡ Some parent → has_folder t (without_last (project ++ target)) ≡ true → is_folder (entry_at t parent) ≡ true
-parent_there t project target whole parent found is above some there = ap (has_folder t) (sym some ∙ above ∙ ap without_last is) ∙ there
-
 -- a failure of the device stays one
 pub writes_none_removed : (X Y : Type 0) (a b : Meaning) (fault : RemoveFault) → WritesNone a b (removals.is_device_fault {X = X} (Err fault))
     → WritesNone a b (parts.is_device_fault {X = Y} (Err (parts.fault_of_removal fault)))

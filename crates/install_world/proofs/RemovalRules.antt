@@ -24,6 +24,7 @@ use Rattle.tree_dev.proofs.Stretches.{through_ends, through_on}
 use Rattle.tree_dev.proofs.Whole.{reading_on, whole_on, whole_then_barrier, whole_then_read}
 use Rattle.tree_dev.specs.declared.fault.TreeFault.{TreeFault}
 use Rattle.tree_dev.specs.declared.fault.TreeFault.TheVariants as tree_faults
+use Rattle.install_world.specs.Emptied.{is_vanished}
 use Rattle.install_world.specs.Removals.{OnlyRemoved, Removes, WritesNone, fault_of_tree, is_device_fault}
 
 -- ---- calls that write nothing
@@ -257,3 +258,8 @@ folder_is_gone q b d u may told done = by b.told refl
 pub writes_none_failing : (X Y : Type 0) (a b : Meaning) (fault : TreeFault) → WritesNone a b (is_failed {X = X} (Err fault)) → WritesNone a b (is_device_fault {X = Y} (Err (fault_of_tree fault)))
 writes_none_failing X Y a b tree_faults.Failed is = is
 writes_none_failing X Y a b tree_faults.OutOfMemory is = is
+
+-- a fault of the tree is no entry that vanished
+pub tree_faults_stay : (Y : Type 0) (fault : TreeFault) → is_vanished {X = Y} (Err (fault_of_tree fault)) ≡ false
+tree_faults_stay Y tree_faults.Failed = refl
+tree_faults_stay Y tree_faults.OutOfMemory = refl

@@ -7,3 +7,4 @@ pub mod Moving
 pub mod Removals
 pub mod PartFaults
 pub mod Recovery
+pub mod Emptied

@@ -1,10 +1,10 @@
 -- The way of a tree from one project to another by a journal, and the places of a part on it.
-use Rattle.std.specs.Prelude.{◌≡◌, ℕ, ◌<◌, ◌^◌, List, length, Some, None}
+use Rattle.std.specs.Prelude.{◌≡◌, ◌⊎◌, ℕ, ◌<◌, ◌^◌, List, length, Bool, true, Some, None}
 use Rattle.std.specs.FinMap as map
 use Rattle.tree_dev.specs.Trees.{FileTree, behind}
 use Rattle.tree_dev.specs.Projects.{journal_path}
 use Rattle.tree_dev.specs.declared.entry.Entry.TheVariants.{File}
-use Rattle.install_world.specs.InFlight.{Files, HasJournal, IsInFlight, kept_path, staged_path, target_path}
+use Rattle.install_world.specs.InFlight.{Files, HasJournal, IsInFlight, IsThere, kept_path, staged_path, target_path}
 use Rattle.install_world.specs.declared.journal.Journal.{Journal}
 use Rattle.install_world.specs.declared.moving.PartPlaces.{PartPlaces}
 use Rattle.install_world.specs.Targets.{IsTargetPath}
@@ -35,3 +35,7 @@ pub record ArePlaces (project : List (List ℕ)) (number : ℕ) (target : Target
 pub record ChangesPlaces (places : PartPlaces) (t now : FileTree) : Type 0 where
   pub others : (path : List (List ℕ)) → behind places.target path ≡ None → behind places.staged path ≡ None → behind places.kept path ≡ None
       → map.get now path ≡ map.get t path
+
+-- Nothing stands where the target of a part goes, if it is still to be taken away.
+pub record HasRoom (gone : Bool) (places : PartPlaces) (t : FileTree) : Type 0 where
+  pub free : IsThere t places.target → (gone ≡ true) ⊎ IsThere t places.staged → map.get t places.kept ≡ None

@@ -16,3 +16,11 @@ is_device_fault (Err (faults.OtherEntry at)) = false
 is_device_fault (Err (faults.Vanished at)) = false
 is_device_fault (Err faults.DeviceFault) = true
 is_device_fault (Err faults.OutOfMemory) = false
+
+-- an entry was not as it must be
+abbrev pub is_unfit : {X : Type 0} → Result X PartFault → Bool
+is_unfit (Ok x) = false
+is_unfit (Err (faults.OtherEntry at)) = true
+is_unfit (Err (faults.Vanished at)) = true
+is_unfit (Err faults.DeviceFault) = false
+is_unfit (Err faults.OutOfMemory) = false

@@ -1,5 +1,5 @@
 -- What recovery makes of a project, and its faults.
-use Rattle.std.specs.Prelude.{◌≡◌, ℕ, List, Bool, true, false, Option, None, Some, Result, Ok, Err}
+use Rattle.std.specs.Prelude.{◌≡◌, ◌⊎◌, ◌≤◌, ℕ, List, length, Bool, true, false, Option, None, Some, Result, Ok, Err}
 use Rattle.std.specs.FinMap as map
 use Rattle.tree_dev.specs.Trees.{FileTree}
 use Rattle.tree_dev.specs.Projects.{journal_path, work_path}
@@ -7,7 +7,8 @@ use Rattle.tree_dev.specs.declared.entry.Entry.{Entry}
 use Rattle.install_world.specs.InFlight.{Files, HasFiles, HasSurroundings, NoJournal}
 use Rattle.install_world.specs.JournalText.{IsBadJournal}
 use Rattle.install_world.specs.Moving.{Way}
-use Rattle.tree_dev.specs.declared.entry.Entry.TheVariants.{File}
+use Rattle.tree_dev.specs.declared.entry.Entry.TheVariants.{File, Folder}
+use Rattle.tree_dev.specs.declared.limits.TheConstants.{FILE_BYTES}
 use Rattle.install_world.specs.declared.recovery_fault.Recovered.{Recovered}
 use Rattle.install_world.specs.declared.recovery_fault.Recovered.TheVariants as did
 use Rattle.tree_dev.specs.declared.fault.TreeFault.{TreeFault}
@@ -77,3 +78,22 @@ pub record HasBadJournal (project : List (List ℕ)) (t : FileTree) (place : ℕ
   pub text : List ℕ
   pub there : map.get t (journal_path project) ≡ Some (File text)
   pub bad : IsBadJournal text place
+
+-- Something stood where it must not, or did not stand where it must.
+abbrev pub is_refused : {X : Type 0} → Result X RecoverFault → Bool
+is_refused (Ok x) = false
+is_refused (Err (faults.BadJournal at)) = true
+is_refused (Err (faults.OtherEntry at)) = true
+is_refused (Err (faults.Vanished at)) = true
+is_refused (Err (faults.Limit kind)) = true
+is_refused (Err faults.DeviceFault) = false
+is_refused (Err faults.OutOfMemory) = false
+
+-- A file is at a path, of no more bytes than a file may have, or nothing is.
+pub record IsReadable (at : List (List ℕ)) (t : FileTree) : Type 0 where
+  pub either : (map.get t at ≡ None) ⊎ ((text : List ℕ) × (map.get t at ≡ Some (File text)) × (length text ≤ FILE_BYTES))
+
+-- `.install` is a folder or absent, and a journal in it has no more bytes than a file may have.
+pub record CanRecover (project : List (List ℕ)) (t : FileTree) : Type 0 where
+  pub work : (map.get t (work_path project) ≡ None) ⊎ (map.get t (work_path project) ≡ Some Folder)
+  pub journal : (text : List ℕ) → map.get t (journal_path project) ≡ Some (File text) → length text ≤ FILE_BYTES

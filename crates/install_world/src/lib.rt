@@ -1,4 +1,4 @@
-//! The journal of a project's installs: its text, read and written.
+//! The journal of a project's installs: its text, installs in flight, the moves of a part, and recovery.
 #![tactic(auto)]
 
 mod apart;

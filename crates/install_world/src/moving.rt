@@ -1,13 +1,17 @@
 //! One part of a job, moved to its target.
 
-ghost use Rattle.std.specs.Prelude.{◌≡◌, ℕ, List, true, false, IfOk, None, is_err};
+ghost use Rattle.std.specs.Prelude.{◌≡◌, ◌≢◌, ◌⊎◌, ℕ, List, true, false, IfOk, None, is_err};
+ghost use Rattle.tree_dev.specs.Trees.{entry_at};
+ghost use Rattle.tree_dev.specs.Changes.{has_place, is_file};
+ghost use Rattle.tree_dev.specs.declared.change.Change.TheVariants as changes;
 ghost use Rattle.std.specs.FinMap as map;
 ghost use Rattle.tree_dev.specs.Device.{OfTold};
 ghost use Rattle.tree_dev.specs.Disk.{reading};
 ghost use Rattle.tree_dev.specs.Steady.{EachImage, IsWhole, Through};
 ghost use Rattle.tree_dev.specs.declared.did.Did.TheVariants as dids;
+ghost use Rattle.tree_dev.specs.declared.entry.Kind.TheVariants as kinds;
 ghost use Rattle.install_world.specs.InFlight.{IsPart, IsPartDone, IsThere, staged_path, target_path};
-ghost use Rattle.install_world.specs.Moving.{Way, IsOnWay, ArePlaces, ChangesPlaces};
+ghost use Rattle.install_world.specs.Moving.{Way, IsOnWay, ArePlaces, ChangesPlaces, HasRoom};
 ghost use Rattle.install_world.specs.Removals.{WritesNone};
 ghost use Rattle.install_world.specs.declared.target.Target.{Target as Targets};
 
@@ -34,10 +38,25 @@ fn take_away<T: Tree>(tree: &mut T, places: &PartPlaces) -> Result<Did, Failed>
         → EachImage (T.meaning tree.old) (IsOnWay way) → Through (T.meaning tree.old) (T.meaning tree.new) (IsOnWay way)) }
     ensures done { IfOk result (λ did. did ≡ dids.Done → OfTold (T.meaning tree.old) (λ t. (project : List (List ℕ)) (number : ℕ) (target : Targets)
         → ArePlaces project number target places.now → map.get (reading (T.meaning tree.new).disks.now) (target_path project target) ≡ None)) }
+    ensures fits { IfOk result (λ did. OfTold (T.meaning tree.old) (λ t. (way : Way) (number : ℕ) (target : Targets)
+        → ArePlaces way.project number target places.now → IsPart way.journal.targets number target
+        → IsOnWay way t → HasRoom true places.now t → did ≡ dids.Done)) }
 {
     match tree.stat(&places.target)? {
         Kind::Absent => Ok(Did::Done),
         _ => tree.rename(&places.target, &places.kept),
+    }
+}
+
+/// Whether what is staged can be put over an entry: nothing is there, or a file is to replace a file.
+fn is_free_for(kind: Kind, staged_is_file: bool) -> bool
+    ensures free { result ≡ true → (kind ≡ kinds.Absent) ⊎ ((kind ≡ kinds.File) × (staged_is_file ≡ true)) }
+    ensures taken { result ≡ false → kind ≢ kinds.Absent }
+{
+    match kind {
+        Kind::Absent => true,
+        Kind::File => staged_is_file,
+        _ => false,
     }
 }
 
@@ -48,12 +67,17 @@ fn make_way<T: Tree>(tree: &mut T, places: &PartPlaces, staged_is_file: bool) ->
     ensures through { OfTold (T.meaning tree.old) (λ t. IsWhole (T.meaning tree.old).disks.now → (way : Way) (number : ℕ) (target : Targets)
         → ArePlaces way.project number target places.now → IsPart way.journal.targets number target → IsThere t places.now.staged
         → EachImage (T.meaning tree.old) (IsOnWay way) → Through (T.meaning tree.old) (T.meaning tree.new) (IsOnWay way)) }
+    ensures fits { IfOk result (λ did. OfTold (T.meaning tree.old) (λ t. (way : Way) (number : ℕ) (target : Targets)
+        → ArePlaces way.project number target places.now → IsPart way.journal.targets number target
+        → IsOnWay way t → IsThere t places.now.staged → staged_is_file ≡ is_file (entry_at t places.now.staged) → HasRoom false places.now t
+        → (did ≡ dids.Done) × OfTold (T.meaning tree.new) (λ u. has_place u (changes.Renamed places.now.staged places.now.target) ≡ true))) }
 {
-    match tree.stat(&places.target)? {
-        Kind::Absent => Ok(Did::Done),
-        Kind::File if staged_is_file => Ok(Did::Done),
-        _ => tree.rename(&places.target, &places.kept),
+    let kind = tree.stat(&places.target)?;
+    let free = is_free_for(kind, staged_is_file);
+    if free {
+        return Ok(Did::Done);
     }
+    tree.rename(&places.target, &places.kept)
 }
 
 /// Puts what is staged at its target.
@@ -65,6 +89,9 @@ fn put<T: Tree>(tree: &mut T, places: &PartPlaces, staged_is_file: bool) -> Resu
         → EachImage (T.meaning tree.old) (IsOnWay way) → Through (T.meaning tree.old) (T.meaning tree.new) (IsOnWay way)) }
     ensures done { IfOk result (λ did. did ≡ dids.Done → OfTold (T.meaning tree.old) (λ t. (project : List (List ℕ)) (number : ℕ) (target : Targets)
         → ArePlaces project number target places.now → map.get (reading (T.meaning tree.new).disks.now) (staged_path project number) ≡ None)) }
+    ensures fits { IfOk result (λ did. OfTold (T.meaning tree.old) (λ t. (way : Way) (number : ℕ) (target : Targets)
+        → ArePlaces way.project number target places.now → IsPart way.journal.targets number target
+        → IsOnWay way t → IsThere t places.now.staged → staged_is_file ≡ is_file (entry_at t places.now.staged) → HasRoom false places.now t → did ≡ dids.Done)) }
 {
     match make_way(tree, places, staged_is_file)? {
         Did::Misplaced => Ok(Did::Misplaced),
@@ -87,12 +114,17 @@ pub fn move_part<T: Tree>(tree: &mut T, places: &PartPlaces, gone: bool) -> Resu
     // After Done the part is done.
     ensures done { IfOk result (λ did. did ≡ dids.Done → OfTold (T.meaning tree.old) (λ t. (project : List (List ℕ)) (number : ℕ) (target : Targets)
         → ArePlaces project number target places.now → IsPartDone gone project number target (reading (T.meaning tree.new).disks.now))) }
+    // Over a tree that tells and is on the way, it is Done where nothing stands in the way of what is taken away.
+    ensures fits { IfOk result (λ did. OfTold (T.meaning tree.old) (λ t. (way : Way) (number : ℕ) (target : Targets)
+        → ArePlaces way.project number target places.now → IsPart way.journal.targets number target
+        → target.gone ≡ gone → IsOnWay way t → HasRoom gone places.now t → did ≡ dids.Done)) }
 {
     if gone {
         return take_away(tree, places);
     }
     match tree.stat(&places.staged)? {
         Kind::Absent => Ok(Did::Done), // it was moved before
-        staged => put(tree, places, staged == Kind::File),
+        Kind::File => put(tree, places, true),
+        _ => put(tree, places, false),
     }
 }

@@ -1,17 +1,18 @@
 //! The parts of a job that was committed, each finished.
 
-ghost use Rattle.std.specs.Prelude.{◌≡◌, ◌⊎◌, ◌++◌, ℕ, List, true, false, IfOk, OnOk, is_err, is_some};
-ghost use Rattle.tree_dev.specs.Trees.{FileTree, entry_at, has_folder, is_folder};
+ghost use Rattle.std.specs.Prelude.{◌≡◌, ◌⊎◌, ◌++◌, ℕ, List, true, false, None, IfOk, OnOk, MatchOption, is_err, is_some};
+ghost use Rattle.std.specs.FinMap as map;
+ghost use Rattle.tree_dev.specs.Trees.{FileTree, entry_at, has_folder, is_folder, kind_at};
 ghost use Rattle.path_name.specs.Decimals.{decimal_text};
 ghost use Rattle.path_name.specs.Paths.{without_last};
-ghost use Rattle.tree_dev.specs.Changes.{is_root};
+ghost use Rattle.tree_dev.specs.Changes.{is_leaf, is_root};
 ghost use Rattle.tree_dev.specs.Device.{OfTold, OnlyRead};
 ghost use Rattle.tree_dev.specs.Disk.{reading};
 ghost use Rattle.tree_dev.specs.Steady.{EachImage, IsWhole, Through};
 ghost use Rattle.install_world.specs.InFlight.{AreAllDone, IsPart, IsPartDone, IsThere};
-ghost use Rattle.install_world.specs.Moving.{Way, IsOnWay, ArePlaces};
+ghost use Rattle.install_world.specs.Moving.{Way, IsOnWay, ArePlaces, HasRoom};
 ghost use Rattle.install_world.specs.Removals.{OnlyRemoved, Removes, WritesNone};
-ghost use Rattle.install_world.specs.PartFaults.{is_device_fault};
+ghost use Rattle.install_world.specs.PartFaults.{is_device_fault, is_unfit};
 ghost use Rattle.install_world.specs.Targets.{IsTargetPath};
 ghost use Rattle.install_world.specs.declared.target.Target.{Target as Targets};
 
@@ -67,6 +68,7 @@ fn make_missing<T: Tree>(alloc: Global, tree: &mut T, at: &Path) -> Result<(), P
 pub(crate) fn make_folder<T: Tree>(alloc: Global, tree: &mut T, at: &Path) -> Result<(), PartFault>
     ensures writes_none { WritesNone (T.meaning tree.old) (T.meaning tree.new) (is_device_fault result) }
     ensures still { OfTold (T.meaning tree.old) (λ t. is_folder (entry_at t at.now) ≡ true → (T.meaning tree.new).disks ≡ (T.meaning tree.old).disks) }
+    ensures fits { OfTold (T.meaning tree.old) (λ t. is_folder (entry_at t at.now) ≡ true → is_unfit result ≡ false) }
 {
     match tree.stat(at)? {
         Kind::Folder => Ok(()),
@@ -119,6 +121,7 @@ fn make_up_to<T: Tree>(
 ) -> Result<(), PartFault>
     ensures writes_none { WritesNone (T.meaning tree.old) (T.meaning tree.new) (is_device_fault result) }
     ensures still { OfTold (T.meaning tree.old) (λ t. is_folder (entry_at t parent.now) ≡ true → (T.meaning tree.new).disks ≡ (T.meaning tree.old).disks) }
+    ensures fits { OfTold (T.meaning tree.old) (λ t. is_folder (entry_at t parent.now) ≡ true → is_unfit result ≡ false) }
 {
     match tree.stat(parent)? {
         Kind::Folder => Ok(()),
@@ -136,6 +139,7 @@ fn make_parents<T: Tree>(
     ensures writes_none { WritesNone (T.meaning tree.old) (T.meaning tree.new) (is_device_fault result) }
     ensures still { OfTold (T.meaning tree.old) (λ t. has_folder t (without_last (project.now ++ target.now)) ≡ true
         → (T.meaning tree.new).disks ≡ (T.meaning tree.old).disks) }
+    ensures fits { OfTold (T.meaning tree.old) (λ t. has_folder t (without_last (project.now ++ target.now)) ≡ true → is_unfit result ≡ false) }
 {
     let whole = project.join(alloc, target)?;
     match whole.parent(alloc)? {
@@ -148,6 +152,7 @@ fn make_parents<T: Tree>(
 fn is_there<T: Tree>(tree: &mut T, at: &Path) -> Result<bool, Failed>
     ensures only_read { OnlyRead (T.meaning tree.old) (T.meaning tree.new) (is_err result) }
     ensures there { IfOk result (λ there. there ≡ true → OfTold (T.meaning tree.old) (λ t. is_root at.now ≡ false → IsThere t at.now)) }
+    ensures absent { IfOk result (λ there. there ≡ false → OfTold (T.meaning tree.old) (λ t. map.get t at.now ≡ None)) }
 {
     match tree.stat(at)? {
         Kind::Absent => Ok(false),
@@ -160,6 +165,7 @@ fn is_taken<T: Tree>(tree: &mut T, places: &PartPlaces, gone: bool) -> Result<bo
     ensures only_read { OnlyRead (T.meaning tree.old) (T.meaning tree.new) (is_err result) }
     ensures taken { IfOk result (λ taken. taken ≡ true → OfTold (T.meaning tree.old) (λ t. (project : List (List ℕ)) (number : ℕ) (target : Targets)
         → ArePlaces project number target places.now → IsThere t places.now.target × ((gone ≡ true) ⊎ IsThere t places.now.staged))) }
+    ensures room { IfOk result (λ taken. taken ≡ false → OfTold (T.meaning tree.old) (λ t. HasRoom gone places.now t)) }
 {
     if gone {
         return is_there(tree, &places.target);
@@ -174,6 +180,8 @@ fn is_taken<T: Tree>(tree: &mut T, places: &PartPlaces, gone: bool) -> Result<bo
 fn remove_one<T: Tree>(alloc: Global, tree: &mut T, at: &Path) -> Result<(), PartFault>
     ensures writes_none { WritesNone (T.meaning tree.old) (T.meaning tree.new) (is_device_fault result) }
     ensures removes { Removes at.now (T.meaning tree.old) (T.meaning tree.new) }
+    ensures gone { OnOk result (OfTold (T.meaning tree.new) (λ t. map.get t at.now ≡ None)) }
+    ensures fits { OfTold (T.meaning tree.old) (λ t. is_leaf (entry_at t at.now) ≡ true → is_unfit result ≡ false) }
 {
     match tree.remove_file(at)? {
         Did::Done => Ok(()),
@@ -190,6 +198,8 @@ fn remove_entry<T: Tree>(
 ) -> Result<(), PartFault>
     ensures writes_none { WritesNone (T.meaning tree.old) (T.meaning tree.new) (is_device_fault result) }
     ensures removes { Removes at.now (T.meaning tree.old) (T.meaning tree.new) }
+    ensures gone { OnOk result (OfTold (T.meaning tree.new) (λ t. map.get t at.now ≡ None)) }
+    ensures fits { OfTold (T.meaning tree.old) (λ t. IsThere t at.now → kind ≡ kind_at t at.now → is_unfit result ≡ false) }
 {
     match kind {
         Kind::Folder => {
@@ -198,6 +208,22 @@ fn remove_entry<T: Tree>(
         }
         _ => remove_one(alloc, tree, at),
     }
+}
+
+/// The kind of entry that was found where the target of a part goes, if that is still to be taken.
+fn kept_if_taken<T: Tree>(
+    tree: &mut T,
+    places: &PartPlaces,
+    gone: bool,
+    kind: Kind,
+) -> Result<Option<Kind>, Failed>
+    ensures only_read { OnlyRead (T.meaning tree.old) (T.meaning tree.new) (is_err result) }
+    ensures taken { IfOk result (λ found. is_some found ≡ true → OfTold (T.meaning tree.old) (λ t. (project : List (List ℕ)) (number : ℕ) (target : Targets)
+        → ArePlaces project number target places.now → IsThere t places.now.target × ((gone ≡ true) ⊎ IsThere t places.now.staged))) }
+    ensures found { IfOk result (λ found. OfTold (T.meaning tree.old) (λ t. MatchOption found (HasRoom gone places.now t) (λ same. same ≡ kind))) }
+{
+    let taken = is_taken(tree, places, gone)?;
+    Ok(if taken { Some(kind) } else { None })
 }
 
 /// What kind of entry stands where the target of a part is to be taken, if one does.
@@ -209,13 +235,13 @@ fn kept_in_the_way<T: Tree>(
     ensures only_read { OnlyRead (T.meaning tree.old) (T.meaning tree.new) (is_err result) }
     ensures taken { IfOk result (λ found. is_some found ≡ true → OfTold (T.meaning tree.old) (λ t. (project : List (List ℕ)) (number : ℕ) (target : Targets)
         → ArePlaces project number target places.now → IsThere t places.now.target × ((gone ≡ true) ⊎ IsThere t places.now.staged))) }
+    ensures found { IfOk result (λ found. OfTold (T.meaning tree.old) (λ t. is_root places.now.kept ≡ false
+        → MatchOption found (HasRoom gone places.now t) (λ kind. IsThere t places.now.kept × (kind ≡ kind_at t places.now.kept)))) }
 {
-    let kind = tree.stat(&places.kept)?;
-    if kind == Kind::Absent {
-        return Ok(None);
+    match tree.stat(&places.kept)? {
+        Kind::Absent => Ok(None),
+        kind => kept_if_taken(tree, places, gone, kind),
     }
-    let taken = is_taken(tree, places, gone)?;
-    Ok(if taken { Some(kind) } else { None })
 }
 
 /// Removes what stands at a path. A barrier comes first, so that a crash leaves the tree as it reads, but for what was
@@ -230,6 +256,8 @@ fn settle_and_remove<T: Tree>(
     ensures removes { OnlyRemoved at.now (reading (T.meaning tree.old).disks.now) (reading (T.meaning tree.new).disks.now) }
     ensures through { OfTold (T.meaning tree.old) (λ t. (way : Way) → ((left : FileTree) → OnlyRemoved at.now t left → IsOnWay way left)
         → EachImage (T.meaning tree.old) (IsOnWay way) → Through (T.meaning tree.old) (T.meaning tree.new) (IsOnWay way)) }
+    ensures gone { OnOk result (OfTold (T.meaning tree.new) (λ t. map.get t at.now ≡ None)) }
+    ensures fits { OfTold (T.meaning tree.old) (λ t. IsThere t at.now → kind ≡ kind_at t at.now → is_unfit result ≡ false) }
 {
     tree.barrier()?;
     remove_entry(alloc, tree, at, kind)
@@ -247,6 +275,8 @@ fn clear_kept<T: Tree>(
     ensures through { OfTold (T.meaning tree.old) (λ t. (way : Way) (number : ℕ) (target : Targets)
         → ArePlaces way.project number target places.now → IsPart way.journal.targets number target → target.gone ≡ gone
         → EachImage (T.meaning tree.old) (IsOnWay way) → Through (T.meaning tree.old) (T.meaning tree.new) (IsOnWay way)) }
+    ensures room { OnOk result (OfTold (T.meaning tree.old) (λ t. is_root places.now.kept ≡ false → OfTold (T.meaning tree.new) (HasRoom gone places.now))) }
+    ensures fits { OfTold (T.meaning tree.old) (λ t. is_root places.now.kept ≡ false → is_unfit result ≡ false) }
 {
     match kept_in_the_way(tree, places, gone)? {
         None => Ok(()),
@@ -268,6 +298,9 @@ fn prepare_part<T: Tree>(
         → EachImage (T.meaning tree.old) (IsOnWay way) → Through (T.meaning tree.old) (T.meaning tree.new) (IsOnWay way)) }
     ensures removes { OfTold (T.meaning tree.old) (λ t. (way : Way) (number : ℕ) → way.project ≡ project.now
         → IsPart way.journal.targets number target.now → IsOnWay way t → OnlyRemoved places.now.kept t (reading (T.meaning tree.new).disks.now)) }
+    ensures room { OnOk result (OfTold (T.meaning tree.old) (λ t. is_root places.now.kept ≡ false → OfTold (T.meaning tree.new) (HasRoom target.now.gone places.now))) }
+    ensures fits { OfTold (T.meaning tree.old) (λ t. is_root places.now.kept ≡ false → has_folder t (without_last (project.now ++ target.now.path)) ≡ true
+        → is_unfit result ≡ false) }
 {
     make_parents(alloc, tree, project, &target.path)?;
     clear_kept(alloc, tree, places, target.gone)
@@ -290,6 +323,9 @@ fn finish_part<T: Tree>(
     ensures others { OnOk result (OfTold (T.meaning tree.old) (λ t. (way : Way) → way.project ≡ project.now → IsPart way.journal.targets number target.now
         → IsOnWay way t → (j : ℕ) (other : Targets) → (number ≡ j → ⊥) → IsPart way.journal.targets j other
         → IsPartDone other.gone project.now j other t → IsPartDone other.gone project.now j other (reading (T.meaning tree.new).disks.now))) }
+    ensures fits { OfTold (T.meaning tree.old) (λ t. IsWhole (T.meaning tree.old).disks.now → (way : Way)
+        → way.project ≡ project.now → IsPart way.journal.targets number target.now
+        → EachImage (T.meaning tree.old) (IsOnWay way) → is_unfit result ≡ false) }
 {
     let places = places_of(alloc, project, number, target)?;
     prepare_part(alloc, tree, project, target, &places)?;
@@ -313,6 +349,9 @@ pub(crate) fn finish_parts<T: Tree>(
     ensures done { OnOk result (OfTold (T.meaning tree.old) (λ t. IsWhole (T.meaning tree.old).disks.now → (way : Way)
         → way.project ≡ project.now → way.journal.targets ≡ targets.now
         → EachImage (T.meaning tree.old) (IsOnWay way) → AreAllDone project.now targets.now (reading (T.meaning tree.new).disks.now))) }
+    ensures fits { OfTold (T.meaning tree.old) (λ t. IsWhole (T.meaning tree.old).disks.now → (way : Way)
+        → way.project ≡ project.now → way.journal.targets ≡ targets.now
+        → EachImage (T.meaning tree.old) (IsOnWay way) → is_unfit result ≡ false) }
 {
     'targets: for (number, target) in targets.iter().enumerate() {
         finish_part(alloc, tree, project, number as u64, target)?;

@@ -3,6 +3,7 @@
 ghost use Rattle.std.specs.Prelude.{◌≡◌, ◌<◌, ◌^◌, List, ℕ, false, IfOk, OnOk, Err, None, Some, MatchOption, length};
 ghost use Rattle.std.specs.FinMap as map;
 ghost use Rattle.tree_dev.specs.Trees.{FileTree};
+ghost use Rattle.tree_dev.specs.Changes.{is_root};
 ghost use Rattle.tree_dev.specs.Device.{OfTold, OnlyRead};
 ghost use Rattle.tree_dev.specs.Disk.{reading};
 ghost use Rattle.tree_dev.specs.Steady.{EachImage, Through};
@@ -13,7 +14,7 @@ ghost use Rattle.install_world.specs.JournalText.{IsBadJournal};
 ghost use Rattle.install_world.specs.Removals.{OnlyRemoved, WritesNone};
 ghost use Rattle.install_world.specs.declared.recovery_fault.RecoverFault.TheVariants as faults;
 ghost use Rattle.install_world.specs.declared.recovery_fault.Recovered.TheVariants as did;
-ghost use Rattle.install_world.specs.Recovery.{HasBadJournal, IsRecovered, ended_by, is_device_fault, recovered_in};
+ghost use Rattle.install_world.specs.Recovery.{CanRecover, HasBadJournal, IsReadable, IsRecovered, ended_by, is_device_fault, is_refused, recovered_in};
 
 use crate::ending::finish_journal;
 use crate::{RecoverFault, Recovered, read_journal, remove_folder};
@@ -27,6 +28,7 @@ fn read_text<T: Tree>(alloc: Global, tree: &mut T, at: &Path) -> Result<Option<T
     ensures text { IfOk result (λ text. OfTold (T.meaning tree.old) (λ t. MatchOption text (map.get t at.now ≡ None)
         (λ text. (map.get t at.now ≡ Some (entries.File text)) × (length text < 2 ^ 64)))) }
     ensures not_bad { (place : ℕ) → result ≡ Err (faults.BadJournal place) → ⊥ }
+    ensures fits { OfTold (T.meaning tree.old) (λ t. is_root at.now ≡ false → IsReadable at.now t → is_refused result ≡ false) }
 {
     match tree.read(alloc, at, FILE_BYTES)? {
         ReadAnswer::Bytes(text) => Ok(Some(text)),
@@ -50,6 +52,7 @@ fn take_install_away<T: Tree>(
     ensures not_bad { (place : ℕ) → result ≡ Err (faults.BadJournal place) → ⊥ }
     ensures left { OnOk result (OfTold (T.meaning tree.old) (λ t. EachImage (T.meaning tree.new) (OnlyRemoved work.now t))) }
     ensures gone { OnOk result (OfTold (T.meaning tree.new) (λ t. map.get t work.now ≡ None)) }
+    ensures fits { OfTold (T.meaning tree.old) (λ t. map.get t work.now ≡ Some entries.Folder → is_refused result ≡ false) }
 {
     tree.barrier()?;
     remove_folder(alloc, tree, work)?;
@@ -75,6 +78,9 @@ fn finish_text<T: Tree>(
     ensures found { IfOk result (λ found. found ≡ did.Finished) }
     ensures gone { OnOk result (OfTold (T.meaning tree.new) (λ t. map.get t work.now ≡ None)) }
     ensures bad { (place : ℕ) → result ≡ Err (faults.BadJournal place) → IsBadJournal text.now place × OnlyRead (T.meaning tree.old) (T.meaning tree.new) false }
+    ensures fits { OfTold (T.meaning tree.old) (λ t. (surroundings : FileTree) (old new : Files) → work.now ≡ work_path project.now → at.now ≡ journal_path project.now
+        → map.get t at.now ≡ Some (entries.File text.now) → length text.now < 2 ^ 64 → EachImage (T.meaning tree.old) (IsInFlight project.now surroundings old new)
+        → is_refused result ≡ false) }
 {
     let journal = read_journal(alloc, text)?;
     tree.barrier()?;
@@ -101,6 +107,8 @@ fn finish_claimed<T: Tree>(
     ensures gone { OnOk result (OfTold (T.meaning tree.new) (λ t. map.get t work.now ≡ None)) }
     ensures bad { (place : ℕ) → result ≡ Err (faults.BadJournal place) → OnlyRead (T.meaning tree.old) (T.meaning tree.new) false
         × OfTold (T.meaning tree.old) (λ t. work.now ≡ work_path project.now → HasBadJournal project.now t place) }
+    ensures fits { OfTold (T.meaning tree.old) (λ t. (surroundings : FileTree) (old new : Files) → work.now ≡ work_path project.now → map.get t work.now ≡ Some entries.Folder
+        → EachImage (T.meaning tree.old) (IsInFlight project.now surroundings old new) → CanRecover project.now t → is_refused result ≡ false) }
 {
     let at = work.child(alloc, b"journal")?;
     match read_text(alloc, tree, &at)? {
@@ -114,7 +122,9 @@ fn finish_claimed<T: Tree>(
 /// is done. `BadJournal(at)`: `.install/journal` is none, and nothing was changed. `OtherEntry(path)`: `.install` is no folder,
 /// the journal no file, or a folder that a part needs is there as another kind; the parts before are done then. `Limit`: the
 /// journal passes `FILE_BYTES`. `Vanished(path)`: what earlier calls showed is no longer there. `DeviceFault` comes only
-/// where the device's count of faults rose. It is run only while no install runs.
+/// where the device's count of faults rose. It is run only while no install runs. Over a tree that tells and is in flight, where
+/// `.install` is a folder or absent and the journal no longer than `FILE_BYTES`, it refuses only for a device that fails or for
+/// want of memory.
 pub fn finish_install<T: Tree>(
     alloc: Global,
     tree: &mut T,
@@ -134,6 +144,8 @@ pub fn finish_install<T: Tree>(
     ensures gone { OnOk result (OfTold (T.meaning tree.new) (λ t. map.get t (work_path project.now) ≡ None)) }
     ensures bad { (place : ℕ) → result ≡ Err (faults.BadJournal place) → OnlyRead (T.meaning tree.old) (T.meaning tree.new) false
         × OfTold (T.meaning tree.old) (λ t. HasBadJournal project.now t place) }
+    ensures fits { OfTold (T.meaning tree.old) (λ t. (surroundings : FileTree) (old new : Files)
+        → EachImage (T.meaning tree.old) (IsInFlight project.now surroundings old new) → CanRecover project.now t → is_refused result ≡ false) }
 {
     let work = project.child(alloc, b".install")?;
     match tree.stat(&work)? {

@@ -1,14 +1,20 @@
 //! The removal of a folder with all that is in it.
 
-ghost use Rattle.std.specs.Prelude.{◌≡◌, ◌++◌, IsTrue, None, OnOk};
+ghost use Rattle.std.specs.Prelude.{◌≡◌, ◌≢◌, ◌++◌, ◌∷◌, ◌↔◌, [], List, ℕ, false, Contains, IsTrue, None, Some, IfOk, OnOk};
+ghost use Rattle.std.specs.BTreeSet.{contains};
 ghost use Rattle.std.specs.FinMap as map;
+ghost use Rattle.path_name.specs.Orders.{path_cmp};
 ghost use Rattle.path_name.specs.Paths.{is_segment};
 ghost use Rattle.tree_dev.specs.Device.{OfTold};
+ghost use Rattle.tree_dev.specs.declared.entry.Entry.TheVariants as entries;
+ghost use Rattle.install_world.specs.Emptied.{AreCovered, IsBare, RemovesLeaf, RemovesLeavesOf, is_vanished};
+ghost use Rattle.install_world.specs.InFlight.{IsThere};
 ghost use Rattle.install_world.specs.Removals.{Removes, WritesNone, is_device_fault};
 
 use crate::RemoveFault;
 use path_name::Path;
-use std::alloc::Global;
+use std::alloc::{AllocError, Global};
+use std::collections::BTreeSet;
 use tree_dev::{Did, ListAnswer, Tree};
 
 /// Removes an entry that is no folder, and puts a folder on a list. Paths on lists are counted from `at`.
@@ -23,6 +29,9 @@ fn remove_leaf<T: Tree>(
     requires { IsTrue (is_segment name.now) }
     ensures writes_none { WritesNone (T.meaning tree.old) (T.meaning tree.new) (is_device_fault result) }
     ensures removes { Removes at.now (T.meaning tree.old) (T.meaning tree.new) }
+    ensures leaf { OnOk result (OfTold (T.meaning tree.old) (λ t. OfTold (T.meaning tree.new) (λ u. IsThere t (at.now ++ (folder.now ++ name.now ∷ []))
+        → RemovesLeaf at.now (folder.now ++ name.now ∷ []) ahead.old.items ahead.new.items t u))) }
+    ensures never_vanished { is_vanished result ≡ false }
 {
     let entry = folder.child(alloc, name)?;
     let path = at.join(alloc, &entry)?;
@@ -45,6 +54,8 @@ fn remove_leaves<T: Tree>(
 ) -> Result<(), RemoveFault>
     ensures writes_none { WritesNone (T.meaning tree.old) (T.meaning tree.new) (is_device_fault result) }
     ensures removes { Removes at.now (T.meaning tree.old) (T.meaning tree.new) }
+    ensures emptied { OnOk result (OfTold (T.meaning tree.old) (λ t. OfTold (T.meaning tree.new) (RemovesLeavesOf at.now folder.now ahead.old.items ahead.new.items t))) }
+    ensures never_vanished { OfTold (T.meaning tree.old) (λ t. map.get t (at.now ++ folder.now) ≡ Some entries.Folder → is_vanished result ≡ false) }
 {
     let path = at.join(alloc, folder)?;
     match tree.list(alloc, &path, u32::MAX)? {
@@ -68,6 +79,11 @@ fn remove_all_leaves<T: Tree>(
 ) -> Result<Vec<Path>, RemoveFault>
     ensures writes_none { WritesNone (T.meaning tree.old) (T.meaning tree.new) (is_device_fault result) }
     ensures removes { Removes at.now (T.meaning tree.old) (T.meaning tree.new) }
+    ensures covered { IfOk result (λ emptied. OfTold (T.meaning tree.old) (λ t. AreCovered at.now ahead.items [] t
+        → OfTold (T.meaning tree.new) (AreCovered at.now [] emptied.items))) }
+    ensures folders { OnOk result (OfTold (T.meaning tree.old) (λ t. OfTold (T.meaning tree.new) (λ u. (path : List (List ℕ))
+        → map.get t path ≡ Some entries.Folder → map.get u path ≡ Some entries.Folder))) }
+    ensures never_vanished { OfTold (T.meaning tree.old) (λ t. AreCovered at.now ahead.items [] t → is_vanished result ≡ false) }
 {
     let mut emptied = Vec::new(alloc);
     'folders: while let Some(folder) = ahead.pop() {
@@ -82,6 +98,9 @@ fn remove_empty<T: Tree>(alloc: Global, tree: &mut T, path: &Path) -> Result<(),
     ensures writes_none { WritesNone (T.meaning tree.old) (T.meaning tree.new) (is_device_fault result) }
     ensures removes { Removes path.now (T.meaning tree.old) (T.meaning tree.new) }
     ensures gone { OnOk result (OfTold (T.meaning tree.new) (λ t. map.get t path.now ≡ None)) }
+    ensures others { OnOk result (OfTold (T.meaning tree.old) (λ t. OfTold (T.meaning tree.new) (λ u. (other : List (List ℕ)) → other ≢ path.now
+        → map.get u other ≡ map.get t other))) }
+    ensures never_vanished { OfTold (T.meaning tree.old) (λ t. IsBare path.now t → is_vanished result ≡ false) }
 {
     match tree.remove_dir(path)? {
         Did::Done => Ok(()),
@@ -89,17 +108,32 @@ fn remove_empty<T: Tree>(alloc: Global, tree: &mut T, path: &Path) -> Result<(),
     }
 }
 
-/// Removes the folders of a list, the last one first.
+/// The paths of a list in their order, each once, so that a folder stands before those in it.
+fn in_order(alloc: Global, mut folders: Vec<Path>) -> Result<BTreeSet<Path>, AllocError>
+    ensures { IfOk result (λ ordered. (path : List (List ℕ)) → IsTrue (contains path_cmp ordered path) ↔ Contains folders.items path) }
+{
+    let mut ordered = BTreeSet::new(alloc);
+    'folders: while let Some(folder) = folders.pop() {
+        ordered.insert(folder)?;
+    }
+    Ok(ordered)
+}
+
+/// Removes the folders of a list, each after those in it.
 fn remove_folders<T: Tree>(
     alloc: Global,
     tree: &mut T,
     at: &Path,
-    mut folders: Vec<Path>,
+    folders: Vec<Path>,
 ) -> Result<(), RemoveFault>
     ensures writes_none { WritesNone (T.meaning tree.old) (T.meaning tree.new) (is_device_fault result) }
     ensures removes { Removes at.now (T.meaning tree.old) (T.meaning tree.new) }
+    ensures bare { OnOk result (OfTold (T.meaning tree.old) (λ t. AreCovered at.now [] folders.items t → map.get t at.now ≡ Some entries.Folder
+        → OfTold (T.meaning tree.new) (IsBare at.now))) }
+    ensures never_vanished { OfTold (T.meaning tree.old) (λ t. AreCovered at.now [] folders.items t → map.get t at.now ≡ Some entries.Folder → is_vanished result ≡ false) }
 {
-    'folders: while let Some(folder) = folders.pop() {
+    let mut ordered = in_order(alloc, folders)?;
+    'folders: while let Some(folder) = ordered.pop_last() {
         let path = at.join(alloc, &folder)?;
         remove_empty(alloc, tree, &path)?;
     }
@@ -110,11 +144,12 @@ fn remove_folders<T: Tree>(
 /// it. Nothing else changes, whatever happens. `Vanished(path)`: what earlier calls showed at a path is no longer there, or
 /// a folder has entries that were not listed. `DeviceFault` comes only where the device's count of faults rose. It takes
 /// memory for the paths of the folders, and goes down no deeper for deep ones. Of each entry one call is made, and of each
-/// folder three.
+/// folder three. Over a tree that tells, `Vanished` comes only where no folder is at the path.
 pub fn remove_folder<T: Tree>(alloc: Global, tree: &mut T, at: &Path) -> Result<(), RemoveFault>
     ensures writes_none { WritesNone (T.meaning tree.old) (T.meaning tree.new) (is_device_fault result) }
     ensures removes { Removes at.now (T.meaning tree.old) (T.meaning tree.new) }
     ensures gone { OnOk result (OfTold (T.meaning tree.new) (λ t. map.get t at.now ≡ None)) }
+    ensures never_vanished { OfTold (T.meaning tree.old) (λ t. map.get t at.now ≡ Some entries.Folder → is_vanished result ≡ false) }
 {
     let mut ahead = Vec::new(alloc);
     remove_leaves(alloc, tree, at, &Path::root(alloc), &mut ahead)?;

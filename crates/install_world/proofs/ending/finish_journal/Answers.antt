@@ -6,6 +6,12 @@ use Rattle.install_world.proofs.PartDone.{told_still}
 use Rattle.install_world.proofs.PartFinish.{parents_then, still_through, way_reads}
 use Rattle.install_world.proofs.RemovalRules.{writes_none_on, writes_none_start}
 use Rattle.install_world.proofs.Segments.{install_segment, old_segment}
+use Rattle.std.proofs.Common.{◌≡◌, ◌∙◌, refl, subst}
+use Rattle.std.specs.Prelude.{Some}
+use Rattle.std.specs.FinMap as map
+use Rattle.tree_dev.specs.Projects.{work_path}
+use Rattle.tree_dev.specs.declared.entry.Entry.TheVariants.{Folder}
+use Rattle.install_world.proofs.RoomMade.{work_not_journal, work_stands}
 use Rattle.install_world.proofs.ending.finish_journal.Goals as goal
 
 pub child-requires : goal.child-requires
@@ -95,3 +101,71 @@ returns-clause-settled g c = on_ok_weaker c.end_journal.result
     (all_done_of way c.args.project.now c.as_slice.result.now then.0 third same targets disk (c.in_ok-finish_parts.ensures.done now.0 now.1 whole_second way same targets here))
     (way_reads way third then.0 disk (through_ends (IsOnWay way) second third (c.finish_parts.ensures.through now.0 now.1 whole_second way same targets here))))
     c.end_journal.ensures.settled
+
+pub returns-in_err-work-clause-fits : goal.returns-in_err-work-clause-fits
+returns-in_err-work-clause-fits g c = let p = err_from_is_err_and c.from_residual.result c.from_residual.ensures.1 in rw (p.1, p.2) (λ t told whole way same by is each. refl)
+
+pub returns-in_err-old-clause-fits : goal.returns-in_err-old-clause-fits
+returns-in_err-old-clause-fits g c = let p = err_from_is_err_and c.from_residual-in_err-old.result c.from_residual-in_err-old.ensures.1 in rw (p.1, p.2) (λ t told whole way same by is each. refl)
+
+pub returns-in_err-make_folder-clause-fits : goal.returns-in_err-make_folder-clause-fits
+returns-in_err-make_folder-clause-fits g c =
+    let p = err_from_is_err_and c.from_residual-in_err-make_folder.result c.from_residual-in_err-make_folder.ensures.1 in
+    rw (p.1, p.2) (λ t told whole way same by is each.
+    let first = g.T.Tree.meaning c.args.tree.now in
+    let second = g.T.Tree.meaning c.make_folder.new.tree in
+    let on = way_reads way first t (g.met.T.Tree.tells_its_disk c.args.tree.now t told) each in
+    let there = old_there way t on c.args.project.now c.in_ok-old.old same (old_is c.args.project.now c.in_ok-work.work c.in_ok-old.old c.in_ok-work.ensures c.in_ok-old.ensures) in
+    c.in_err-make_folder.ensures.fits t told there)
+
+pub returns-in_err-finish_parts-clause-fits : goal.returns-in_err-finish_parts-clause-fits
+returns-in_err-finish_parts-clause-fits g c =
+    let p = err_from_is_err_and c.from_residual-in_err-finish_parts.result c.from_residual-in_err-finish_parts.ensures.1 in
+    rw (p.1, p.2) (λ t told whole way same by is each.
+    let first = g.T.Tree.meaning c.args.tree.now in
+    let second = g.T.Tree.meaning c.make_folder.new.tree in
+    let on = way_reads way first t (g.met.T.Tree.tells_its_disk c.args.tree.now t told) each in
+    let there = old_there way t on c.args.project.now c.in_ok-old.old same (old_is c.args.project.now c.in_ok-work.work c.in_ok-old.old c.in_ok-work.ensures c.in_ok-old.ensures) in
+    let targets = targets_of way c.args.journal.now by c.as_slice.result.now c.as_slice.ensures in
+    let whole_second = c.make_folder.ensures.writes_none.whole whole in
+    let now = told_still first second t c.make_folder.ensures.writes_none.tells told in
+    let start = still_through way first second (c.make_folder.ensures.still t told there) c.make_folder.ensures.writes_none.faults each in
+    let here = through_ends (IsOnWay way) first second start in
+    c.in_err-finish_parts.ensures.fits now.0 now.1 whole_second way same targets here)
+
+pub returns-clause-fits : goal.returns-clause-fits
+returns-clause-fits g c = λ t told whole way same by is each.
+    let first = g.T.Tree.meaning c.args.tree.now in
+    let second = g.T.Tree.meaning c.make_folder.new.tree in
+    let on = way_reads way first t (g.met.T.Tree.tells_its_disk c.args.tree.now t told) each in
+    let there = old_there way t on c.args.project.now c.in_ok-old.old same (old_is c.args.project.now c.in_ok-work.work c.in_ok-old.old c.in_ok-work.ensures c.in_ok-old.ensures) in
+    let targets = targets_of way c.args.journal.now by c.as_slice.result.now c.as_slice.ensures in
+    let whole_second = c.make_folder.ensures.writes_none.whole whole in
+    let now = told_still first second t c.make_folder.ensures.writes_none.tells told in
+    let start = still_through way first second (c.make_folder.ensures.still t told there) c.make_folder.ensures.writes_none.faults each in
+    let here = through_ends (IsOnWay way) first second start in
+    let third = g.T.Tree.meaning c.finish_parts.new.tree in
+    let then = told_still second third now.0 c.finish_parts.ensures.writes_none.tells now.1 in
+    let disk = g.met.T.Tree.tells_its_disk c.finish_parts.new.tree then.0 then.1 in
+    let last = way_reads way third then.0 disk (through_ends (IsOnWay way) second third (c.finish_parts.ensures.through now.0 now.1 whole_second way same targets here)) in
+    c.end_journal.ensures.fits then.0 then.1 way (at_way way c.args.project.now c.args.at.now same is) last.stands
+
+pub returns-clause-work : goal.returns-clause-work
+returns-clause-work g c = on_ok_weaker c.end_journal.result
+    (λ others t told whole way same by is each u after.
+    let first = g.T.Tree.meaning c.args.tree.now in
+    let second = g.T.Tree.meaning c.make_folder.new.tree in
+    let on = way_reads way first t (g.met.T.Tree.tells_its_disk c.args.tree.now t told) each in
+    let there = old_there way t on c.args.project.now c.in_ok-old.old same (old_is c.args.project.now c.in_ok-work.work c.in_ok-old.old c.in_ok-work.ensures c.in_ok-old.ensures) in
+    let targets = targets_of way c.args.journal.now by c.as_slice.result.now c.as_slice.ensures in
+    let whole_second = c.make_folder.ensures.writes_none.whole whole in
+    let now = told_still first second t c.make_folder.ensures.writes_none.tells told in
+    let start = still_through way first second (c.make_folder.ensures.still t told there) c.make_folder.ensures.writes_none.faults each in
+    let here = through_ends (IsOnWay way) first second start in
+    let third = g.T.Tree.meaning c.finish_parts.new.tree in
+    let then = told_still second third now.0 c.finish_parts.ensures.writes_none.tells now.1 in
+    let disk = g.met.T.Tree.tells_its_disk c.finish_parts.new.tree then.0 then.1 in
+    let last = way_reads way third then.0 disk (through_ends (IsOnWay way) second third (c.finish_parts.ensures.through now.0 now.1 whole_second way same targets here)) in
+    others then.0 then.1 u after (work_path c.args.project.now) (λ e. work_not_journal c.args.project.now (e ∙ is))
+    ∙ subst (λ project. map.get then.0 (work_path project) ≡ Some Folder) same (work_stands way then.0 (g.met.T.Tree.tells_trees c.finish_parts.new.tree then.0 then.1) last))
+    c.end_journal.ensures.others

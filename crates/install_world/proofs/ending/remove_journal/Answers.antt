@@ -6,6 +6,13 @@ use Rattle.install_world.specs.InFlight.{IsInFlight}
 use Rattle.install_world.proofs.JournalEnds.{ends_in_flight, ends_new, still_in_flight}
 use Rattle.install_world.proofs.PartDone.{told_still}
 use Rattle.install_world.proofs.RemovalRules.{writes_none_barrier, writes_none_change, writes_none_start}
+use Rattle.std.proofs.Common.{◌∙◌}
+use Rattle.install_world.proofs.PlacesFree.{barrier_told, journal_has_place, placed_is_done}
+use Rattle.std.proofs.Common.{ap, sym}
+use Rattle.std.specs.FinMap as map
+use Rattle.tree_dev.specs.Trees.{FileTree}
+use Rattle.install_world.proofs.LeavesGone.{file_else}
+use Rattle.install_world.proofs.PlacesFree.{told_changed}
 use Rattle.install_world.proofs.ending.remove_journal.Goals as goal
 
 pub returns-in_err-barrier-clause-writes_none : goal.returns-in_err-barrier-clause-writes_none
@@ -75,3 +82,17 @@ pub returns-in-Misplaced-clause-through : goal.returns-in-Misplaced-clause-throu
 returns-in-Misplaced-clause-through g c = λ t told whole way is done each.
     ends_in_flight way _ _ t (g.met.T.Tree.tells_its_disk c.args.tree.now t told) c.barrier.ensures.moments _ c.args.journal.now c.remove_file.ensures.moments
     (g.met.T.Tree.tells_trees c.args.tree.now t told) whole is done each
+
+pub returns-in-Misplaced-clause-fits : goal.returns-in-Misplaced-clause-fits
+returns-in-Misplaced-clause-fits g c = λ t told way is stands.
+    let done = placed_is_done t (FileRemoved c.args.journal.now) c.in_ok-remove_file.field-0
+    (c.in_ok-remove_file.ensures.answer t (barrier_told _ _ c.barrier.ensures.moments ∙ told)) (journal_has_place way t c.args.journal.now is stands) in
+    let misplaced = c.in-Misplaced.is in
+    absurd cc
+
+pub returns-in_ok-barrier-in-Done-clause-others : goal.returns-in_ok-barrier-in-Done-clause-others
+returns-in_ok-barrier-in-Done-clause-others g c = λ done t told u now path differs.
+    let removed = told_changed _ _ t u (FileRemoved c.args.journal.now)
+    (c.in_ok-remove_file.ensures.done c.in-Done.is t (barrier_told _ _ c.barrier.ensures.moments ∙ told)).told
+    (barrier_told _ _ c.barrier.ensures.moments ∙ told) (sym (barrier_told _ _ c.barrier-in-Done.ensures.moments) ∙ now) in
+    ap (λ (w : FileTree). map.get w path) (sym removed) ∙ file_else t c.args.journal.now path differs

@@ -4,46 +4,80 @@ use Rattle.tree_dev.proofs.Whole.{whole_then_read}
 use Rattle.install_world.proofs.PartDone.{places_read, places_start, places_take}
 use Rattle.install_world.proofs.RemovalRules.{cause_of, writes_none_change, writes_none_read, writes_none_start}
 use Rattle.install_world.proofs.WayMoves.{read_through, take_through, told_there}
+use Rattle.std.proofs.Common.{◌≡◌, true, ap, sym, ◌∙◌, inl, inr, subst}
+use Rattle.tree_dev.specs.Trees.{FileTree}
+use Rattle.tree_dev.specs.Changes.{has_place, is_root}
+use Rattle.tree_dev.specs.declared.change.Change.TheVariants as changes
+use Rattle.install_world.proofs.FlightLaws.{target_under}
+use Rattle.install_world.proofs.PartFinish.{way_target}
+use Rattle.install_world.proofs.PartDone.{absent_is_none}
+use Rattle.install_world.proofs.PlacesFree.{file_by_kind, if_ok_two, placed_is_done, put_after_take, put_has_place, put_over_file, take_has_place, told_changed, told_same}
+use Rattle.install_world.proofs.WayMoves.{there_by_kind}
 use Rattle.install_world.proofs.moving.make_way.Goals as goal
 
-pub returns-in_err-stat-clause-writes_none : goal.returns-in_err-stat-clause-writes_none
-returns-in_err-stat-clause-writes_none g c =
+pub returns-in_err-kind-clause-writes_none : goal.returns-in_err-kind-clause-writes_none
+returns-in_err-kind-clause-writes_none g c =
     let p = err_from_is_err_and c.from_residual.result c.from_residual.ensures.1 in
-    rw p.1 (writes_none_read _ _ _ _ c.in_err-stat.ensures.only_read (writes_none_start _))
+    rw p.1 (writes_none_read _ _ _ _ c.in_err-kind.ensures.only_read (writes_none_start _))
 
-pub returns-in_err-stat-clause-moves : goal.returns-in_err-stat-clause-moves
-returns-in_err-stat-clause-moves g c = places_read c.args.places.now _ _ _ _ c.stat.ensures.only_read (places_start c.args.places.now _)
+pub returns-in_err-kind-clause-moves : goal.returns-in_err-kind-clause-moves
+returns-in_err-kind-clause-moves g c = places_read c.args.places.now _ _ _ _ c.stat.ensures.only_read (places_start c.args.places.now _)
 
-pub returns-in_err-stat-clause-through : goal.returns-in_err-stat-clause-through
-returns-in_err-stat-clause-through g c = λ t told whole way number target are part there each.
+pub returns-in_err-kind-clause-through : goal.returns-in_err-kind-clause-through
+returns-in_err-kind-clause-through g c = λ t told whole way number target are part there each.
     read_through way number target c.args.places.now are part _ _ _ c.stat.ensures.only_read each
 
-pub returns-in-Absent-clause-writes_none : goal.returns-in-Absent-clause-writes_none
-returns-in-Absent-clause-writes_none g c = writes_none_read _ _ _ _ c.in_ok-stat.ensures.only_read (writes_none_start _)
+pub returns-then-free-clause-writes_none : goal.returns-then-free-clause-writes_none
+returns-then-free-clause-writes_none g c = writes_none_read _ _ _ _ c.in_ok-kind.ensures.only_read (writes_none_start _)
 
-pub returns-in-Absent-clause-moves : goal.returns-in-Absent-clause-moves
-returns-in-Absent-clause-moves g c = places_read c.args.places.now _ _ _ _ c.stat.ensures.only_read (places_start c.args.places.now _)
+pub returns-then-free-clause-moves : goal.returns-then-free-clause-moves
+returns-then-free-clause-moves g c = places_read c.args.places.now _ _ _ _ c.stat.ensures.only_read (places_start c.args.places.now _)
 
-pub returns-in-Absent-clause-through : goal.returns-in-Absent-clause-through
-returns-in-Absent-clause-through g c = λ t told whole way number target are part there each.
+pub returns-then-free-clause-through : goal.returns-then-free-clause-through
+returns-then-free-clause-through g c = λ t told whole way number target are part there each.
     read_through way number target c.args.places.now are part _ _ _ c.stat.ensures.only_read each
 
-pub returns-in-File-clause-through : goal.returns-in-File-clause-through
-returns-in-File-clause-through g c = λ t told whole way number target are part there each.
-    read_through way number target c.args.places.now are part _ _ _ c.stat.ensures.only_read each
+pub returns-then-free-clause-fits : goal.returns-then-free-clause-fits
+returns-then-free-clause-fits g c = λ t told way number target are part on there leaf room. (
+  refl,
+  λ u now. subst (λ (w : FileTree). has_place w (changes.Renamed c.args.places.now.staged c.args.places.now.target) ≡ true)
+      (told_same _ _ t u c.stat.ensures.only_read.told told now)
+      (elim (c.is_free_for-free.ensures.free c.if-free.true) [
+        | inl absent ↦ put_has_place way number target c.args.places.now are part t on there
+            (absent_is_none t c.args.places.now.target c.in_ok-kind.kind (c.in_ok-kind.ensures.kind t told) absent)
+        | inr files ↦ put_over_file way number target c.args.places.now are part t on there (sym leaf ∙ files.1)
+            (file_by_kind t c.args.places.now.target c.in_ok-kind.kind (c.in_ok-kind.ensures.kind t told) files.0)
+      ]),
+)
 
-pub returns-in_default-clause-writes_none : goal.returns-in_default-clause-writes_none
-returns-in_default-clause-writes_none g c =
+pub returns-clause-writes_none : goal.returns-clause-writes_none
+returns-clause-writes_none g c =
     writes_none_change _ _ _ _ _ c.rename.ensures.moments refl (cause_of c.rename.result c.rename.ensures.cause)
-    (writes_none_read _ _ _ _ c.in_ok-stat.ensures.only_read (writes_none_start _))
+    (writes_none_read _ _ _ _ c.in_ok-kind.ensures.only_read (writes_none_start _))
 
-pub returns-in_default-clause-moves : goal.returns-in_default-clause-moves
-returns-in_default-clause-moves g c =
+pub returns-clause-moves : goal.returns-clause-moves
+returns-clause-moves g c =
     places_take c.args.places.now _ _ _ c.rename.ensures.moments (places_read c.args.places.now _ _ _ _ c.stat.ensures.only_read (places_start c.args.places.now _))
 
-pub returns-in_default-clause-through : goal.returns-in_default-clause-through
-returns-in_default-clause-through g c = λ t told whole way number target are part there each.
+pub returns-clause-through : goal.returns-clause-through
+returns-clause-through g c = λ t told whole way number target are part there each.
     take_through way number target c.args.places.now are part _ _ _
     (told_there _ _ _ t c.args.places.now.staged c.stat.ensures.only_read (g.met.T.Tree.tells_its_disk c.args.tree.now t told) there)
     (whole_then_read _ _ _ c.stat.ensures.only_read whole) c.rename.ensures.moments
     (read_through way number target c.args.places.now are part _ _ _ c.stat.ensures.only_read each)
+
+pub returns-clause-fits : goal.returns-clause-fits
+returns-clause-fits g c = if_ok_two c.rename.result _ _ _
+    (λ answer is adds t told way number target are part on there leaf room.
+    let at_target = there_by_kind t c.args.places.now.target c.in_ok-kind.kind (ap is_root are.target_is ∙ target_under way.project target (way_target way t on number target part))
+    (c.in_ok-kind.ensures.kind t told) (c.is_free_for-free.ensures.taken c.if-free.false) in
+    let none = room.free at_target (inr there) in
+    let then = c.stat.ensures.only_read.told ∙ told in
+    let done = placed_is_done t (changes.Renamed c.args.places.now.target c.args.places.now.kept) answer (is t then)
+    (take_has_place way number target c.args.places.now are part t on at_target none) in (
+      done,
+      λ u now. subst (λ (w : FileTree). has_place w (changes.Renamed c.args.places.now.staged c.args.places.now.target) ≡ true)
+          (told_changed _ _ t u (changes.Renamed c.args.places.now.target c.args.places.now.kept) (adds done t then).told then now)
+          (put_after_take way number target c.args.places.now are part t on at_target there none),
+    ))
+    c.rename.ensures.answer c.rename.ensures.done

@@ -4,6 +4,13 @@ use Rattle.tree_dev.proofs.Whole.{whole_then_read}
 use Rattle.install_world.proofs.PartDone.{absent_target, places_read, places_start, places_take, taken_is_done}
 use Rattle.install_world.proofs.RemovalRules.{cause_of, writes_none_change, writes_none_read, writes_none_start}
 use Rattle.install_world.proofs.WayMoves.{gone_through, read_through}
+use Rattle.tree_dev.specs.Changes.{is_root}
+use Rattle.tree_dev.specs.declared.change.Change.TheVariants as changes
+use Rattle.std.proofs.Common.{ap, inl}
+use Rattle.install_world.proofs.FlightLaws.{target_under}
+use Rattle.install_world.proofs.PartFinish.{way_target}
+use Rattle.install_world.proofs.PlacesFree.{placed_is_done, take_has_place}
+use Rattle.install_world.proofs.WayMoves.{there_by_kind}
 use Rattle.install_world.proofs.moving.take_away.Goals as goal
 
 pub returns-in_err-stat-clause-writes_none : goal.returns-in_err-stat-clause-writes_none
@@ -52,3 +59,12 @@ returns-in_default-clause-done g c = IfOk-weaker c.rename.result _ _
     (λ did adds is t told project number target are.
     taken_is_done project number target c.args.places.now are _ _ (adds is t (c.stat.ensures.only_read.told ∙ told)))
     c.rename.ensures.done
+
+pub returns-in_default-clause-fits : goal.returns-in_default-clause-fits
+returns-in_default-clause-fits g c = IfOk-weaker c.rename.result _ _
+    (λ answer is t told way number target are part on room.
+    let there = there_by_kind t c.args.places.now.target c.in_ok-stat.field-0 (ap is_root are.target_is ∙ target_under way.project target (way_target way t on number target part))
+    (c.in_ok-stat.ensures.kind t told) c.in_default.not-Absent in
+    placed_is_done t (changes.Renamed c.args.places.now.target c.args.places.now.kept) answer (is t (c.stat.ensures.only_read.told ∙ told))
+    (take_has_place way number target c.args.places.now are part t on there (room.free there (inl refl))))
+    c.rename.ensures.answer

@@ -5,6 +5,9 @@ use Rattle.install_world.specs.Moving.{ArePlaces, IsOnWay}
 use Rattle.install_world.proofs.PartDone.{told_still}
 use Rattle.install_world.proofs.PartFinish.{done_then_moved, done_then_removed, steps_then, way_apart, way_number, way_reads, way_target}
 use Rattle.install_world.proofs.RemovalRules.{writes_none_on, writes_none_start}
+use Rattle.tree_dev.proofs.Stretches.{through_ends}
+use Rattle.install_world.proofs.RoomMade.{kept_is_under}
+use Rattle.install_world.proofs.PartFinish.{parents_are}
 use Rattle.install_world.proofs.parts.finish_part.Goals as goal
 
 pub returns-in_err-places-clause-writes_none : goal.returns-in_err-places-clause-writes_none
@@ -71,3 +74,33 @@ returns-in-Done-clause-others g c = λ t told way same part on j other differs t
     (way_number way t on c.args.number c.args.target.now part) (way_number way t on j other there) differs
     (way_apart way t on c.args.number j c.args.target.now other differs part there) _ _ c.move_part.ensures.moves other.gone
     (done_then_removed c.args.project.now _ other.gone j other t _ removed done)
+
+pub returns-in_err-places-clause-fits : goal.returns-in_err-places-clause-fits
+returns-in_err-places-clause-fits g c = let p = err_from_is_err_and c.from_residual.result c.from_residual.ensures.1 in rw (p.1, p.2) (λ t told whole way same part each. refl)
+
+pub returns-in_err-prepare_part-clause-fits : goal.returns-in_err-prepare_part-clause-fits
+returns-in_err-prepare_part-clause-fits g c =
+    let p = err_from_is_err_and c.from_residual-in_err-prepare_part.result c.from_residual-in_err-prepare_part.ensures.1 in
+    rw (p.1, p.2) (λ t told whole way same part each.
+    let on = way_reads way (g.T.Tree.meaning c.args.tree.now) t (g.met.T.Tree.tells_its_disk c.args.tree.now t told) each in
+    let are = c.in_ok-places.ensures (way_target way t on c.args.number c.args.target.now part) in
+    c.in_err-prepare_part.ensures.fits t told (kept_is_under c.args.project.now c.args.number c.args.target.now c.in_ok-places.places are)
+    (parents_are way c.args.project.now c.args.number c.args.target.now t same on part))
+
+pub returns-in_err-move_part-clause-fits : goal.returns-in_err-move_part-clause-fits
+returns-in_err-move_part-clause-fits g c = let p = err_from_is_err_and c.from_residual-in_err-move_part.result c.from_residual-in_err-move_part.ensures.1 in rw (p.1, p.2) (λ t told whole way same part each. refl)
+
+pub returns-in-Misplaced-clause-fits : goal.returns-in-Misplaced-clause-fits
+returns-in-Misplaced-clause-fits g c = λ t told whole way same part each.
+    let on = way_reads way (g.T.Tree.meaning c.args.tree.now) t (g.met.T.Tree.tells_its_disk c.args.tree.now t told) each in
+    let are = c.in_ok-places.ensures (way_target way t on c.args.number c.args.target.now part) in
+    let first = g.T.Tree.meaning c.args.tree.now in
+    let second = g.T.Tree.meaning c.prepare_part.new.tree in
+    let now = told_still first second t c.prepare_part.ensures.writes_none.tells told in
+    let run = c.prepare_part.ensures.through t told way c.args.number same are part each in
+    let then = way_reads way second now.0 (g.met.T.Tree.tells_its_disk c.prepare_part.new.tree now.0 now.1) (through_ends (IsOnWay way) first second run) in
+    let room = c.in_ok-prepare_part.ensures.room t told (kept_is_under c.args.project.now c.args.number c.args.target.now c.in_ok-places.places are) now.0 now.1 in
+    let done = c.in_ok-move_part.ensures.fits now.0 now.1 way c.args.number c.args.target.now
+    (subst (λ p. ArePlaces p c.args.number c.args.target.now c.in_ok-places.places) (sym same) are) part refl then room in
+    let misplaced = c.in-Misplaced.is in
+    absurd cc

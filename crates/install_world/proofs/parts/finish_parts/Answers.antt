@@ -60,3 +60,15 @@ returns-clause-done g c = λ t told whole way same all each. record {
   each = λ number target part. c.targets.invariant.done t told whole way same all each number target
       (let inside = slice_get_within c.args.targets.now number target part in omega arith) part;
 }
+
+pub returns-in_err-finish_part-clause-fits : goal.returns-in_err-finish_part-clause-fits
+returns-in_err-finish_part-clause-fits g c =
+    let p = err_from_is_err_and c.from_residual.result c.from_residual.ensures.1 in
+    rw (p.1, p.2) (λ t told whole way same all each.
+    let part = slice_get_read c.args.targets.now _ c.targets.number c.index-targets-number.result refl (omega arith) c.index-targets-number.is in
+    let before = g.T.Tree.meaning c.args.tree.now in
+    let here = g.T.Tree.meaning c.targets.tree in
+    let now = told_still before here t c.targets.invariant.writes_none.tells told in
+    c.in_err-finish_part.ensures.fits now.0 now.1 (c.targets.invariant.writes_none.whole whole) way same
+    (subst (λ targets. IsPart targets c.targets.number c.index-targets-number.result) (sym all) part)
+    (through_ends (IsOnWay way) before here (c.targets.invariant.through t told whole way same all each)))

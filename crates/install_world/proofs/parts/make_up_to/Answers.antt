@@ -1,6 +1,7 @@
 use Rattle.std.proofs.lemmas.Result.{err_from_is_err_and}
 use Rattle.install_world.proofs.PartFinish.{shows_folder}
 use Rattle.install_world.proofs.RemovalRules.{writes_none_on, writes_none_read, writes_none_start}
+use Rattle.std.proofs.Common.{refl}
 use Rattle.install_world.proofs.parts.make_up_to.Goals as goal
 
 pub returns-in_err-stat-clause-writes_none : goal.returns-in_err-stat-clause-writes_none
@@ -23,4 +24,11 @@ returns-in_default-clause-writes_none g c =
 
 pub returns-in_default-clause-still : goal.returns-in_default-clause-still
 returns-in_default-clause-still g c = λ t told there.
+    absurd (c.in_default.not-Folder (shows_folder t c.args.parent.now c.in_ok-stat.field-0 (c.in_ok-stat.ensures.kind t told) there))
+
+pub returns-in_err-stat-clause-fits : goal.returns-in_err-stat-clause-fits
+returns-in_err-stat-clause-fits g c = let p = err_from_is_err_and c.from_residual.result c.from_residual.ensures.1 in rw (p.1, p.2) (λ t told there. refl)
+
+pub returns-in_default-clause-fits : goal.returns-in_default-clause-fits
+returns-in_default-clause-fits g c = λ t told there.
     absurd (c.in_default.not-Folder (shows_folder t c.args.parent.now c.in_ok-stat.field-0 (c.in_ok-stat.ensures.kind t told) there))

@@ -5,6 +5,8 @@ use Rattle.install_world.specs.Moving.{ArePlaces}
 use Rattle.install_world.specs.Removals.{OnlyRemoved}
 use Rattle.install_world.proofs.PartFinish.{parents_are, parents_then, same_reads, still_through, way_reads}
 use Rattle.install_world.proofs.RemovalRules.{removed_itself, writes_none_on}
+use Rattle.std.proofs.lemmas.Result.{on_ok_weaker}
+use Rattle.install_world.proofs.PartDone.{told_still}
 use Rattle.install_world.proofs.parts.prepare_part.Goals as goal
 
 pub returns-in_err-make_parents-clause-writes_none : goal.returns-in_err-make_parents-clause-writes_none
@@ -39,3 +41,18 @@ pub returns-clause-removes : goal.returns-clause-removes
 returns-clause-removes g c = λ t told way number same part on.
     subst (λ was. OnlyRemoved c.args.places.now.kept was (reading (g.T.Tree.meaning c.clear_kept.new.tree).disks.now)) (same_reads (g.T.Tree.meaning c.args.tree.now) (g.T.Tree.meaning c.make_parents.new.tree) t (g.met.T.Tree.tells_its_disk c.args.tree.now t told)
     (c.make_parents.ensures.still t told (parents_are way c.args.project.now number c.args.target.now t same on part))) c.clear_kept.ensures.removes
+
+pub returns-clause-room : goal.returns-clause-room
+returns-clause-room g c = on_ok_weaker c.clear_kept.result
+    (λ room t told under.
+    let mid = told_still (g.T.Tree.meaning c.args.tree.now) (g.T.Tree.meaning c.make_parents.new.tree) t c.in_ok-make_parents.ensures.writes_none.tells told in
+    room mid.0 mid.1 under)
+    c.clear_kept.ensures.room
+
+pub returns-in_err-make_parents-clause-fits : goal.returns-in_err-make_parents-clause-fits
+returns-in_err-make_parents-clause-fits g c = let p = err_from_is_err_and c.from_residual.result c.from_residual.ensures.1 in rw (p.1, p.2) (λ t told under parents. c.in_err-make_parents.ensures.fits t told parents)
+
+pub returns-clause-fits : goal.returns-clause-fits
+returns-clause-fits g c = λ t told under parents.
+    let mid = told_still (g.T.Tree.meaning c.args.tree.now) (g.T.Tree.meaning c.make_parents.new.tree) t c.in_ok-make_parents.ensures.writes_none.tells told in
+    c.clear_kept.ensures.fits mid.0 mid.1 under

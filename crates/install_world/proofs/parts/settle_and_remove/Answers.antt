@@ -5,6 +5,8 @@ use Rattle.tree_dev.proofs.Whole.{through_then_barrier}
 use Rattle.install_world.specs.Moving.{IsOnWay}
 use Rattle.install_world.proofs.PartCleared.{removed_barrier, through_cleared}
 use Rattle.install_world.proofs.RemovalRules.{removed_on, writes_none_barrier, writes_none_on, writes_none_start}
+use Rattle.std.proofs.Common.{refl, ◌∙◌}
+use Rattle.install_world.proofs.PlacesFree.{barrier_told}
 use Rattle.install_world.proofs.parts.settle_and_remove.Goals as goal
 
 pub returns-in_err-barrier-clause-writes_none : goal.returns-in_err-barrier-clause-writes_none
@@ -32,3 +34,9 @@ pub returns-clause-through : goal.returns-clause-through
 returns-clause-through g c = λ t told way keeps each.
     through_cleared (IsOnWay way) c.args.at.now t keeps _ _ _ _ (c.in_ok-barrier.ensures.done t told) (sym (g.met.T.Tree.tells_its_disk c.args.tree.now t told).reads)
     c.remove_entry.ensures.removes (through_then_barrier (IsOnWay way) _ _ _ c.barrier.ensures.moments (through_from (IsOnWay way) _ each))
+
+pub returns-in_err-barrier-clause-fits : goal.returns-in_err-barrier-clause-fits
+returns-in_err-barrier-clause-fits g c = let p = err_from_is_err_and c.from_residual.result c.from_residual.ensures.1 in rw (p.1, p.2) (λ t told there is. refl)
+
+pub returns-clause-fits : goal.returns-clause-fits
+returns-clause-fits g c = λ t told there is. c.remove_entry.ensures.fits t (barrier_told _ _ c.barrier.ensures.moments ∙ told) there is

@@ -9,9 +9,15 @@ use Rattle.install_world.specs.InFlight.{IsInFlight, NoJournal}
 use Rattle.install_world.specs.Recovery.{ended_by}
 use Rattle.install_world.specs.Removals.{OnlyRemoved}
 use Rattle.install_world.proofs.JournalEnds.{no_journal_left, parts_left}
-use Rattle.install_world.proofs.RecoveryRules.{at_is, images_read, own_files}
+use Rattle.install_world.proofs.RecoveryRules.{image_reads, at_is, images_read, own_files}
 use Rattle.install_world.proofs.RemovalRules.{writes_none_on, writes_none_read, writes_none_start}
 use Rattle.install_world.proofs.Segments.{journal_segment}
+use Rattle.std.proofs.Common.{refl, ℕ, List}
+use Rattle.std.specs.Prelude.{Option}
+use Rattle.tree_dev.specs.Changes.{is_root}
+use Rattle.install_world.specs.Recovery.{IsReadable}
+use Rattle.install_world.specs.declared.recovery_fault.Recovered.{Recovered}
+use Rattle.install_world.proofs.RecoveryFits.{journal_readable, journal_under, refused_again}
 use Rattle.install_world.proofs.recovery.finish_claimed.Goals as goal
 
 pub child-requires : goal.child-requires
@@ -125,3 +131,29 @@ returns-clause-bad g c = λ place is.
             bad = found.0;
           },
     )
+
+pub returns-in_err-at-clause-fits : goal.returns-in_err-at-clause-fits
+returns-in_err-at-clause-fits g c = let p = err_from_is_err_and c.from_residual.result c.from_residual.ensures.1 in rw (p.1, p.2) (λ t told surroundings old new is_work stands each can. refl)
+
+pub returns-in_err-read_text-clause-fits : goal.returns-in_err-read_text-clause-fits
+returns-in_err-read_text-clause-fits g c =
+    let p = err_from_is_err_and c.from_residual-in_err-read_text.result c.from_residual-in_err-read_text.ensures.1 in
+    rw (p.1, p.2) (λ t told surroundings old new is_work stands each can.
+    let is_at = at_is c.args.project.now c.args.work.now c.in_ok-at.at is_work c.in_ok-at.ensures in
+    let flight = image_reads (IsInFlight c.args.project.now surroundings old new) (g.T.Tree.meaning c.args.tree.now) t (g.met.T.Tree.tells_its_disk c.args.tree.now t told) each in
+    refused_again (Option (List ℕ)) Recovered c.in_err-read_text.field-0.0
+    (c.in_err-read_text.ensures.fits t told (ap is_root is_at ∙ journal_under c.args.project.now)
+    (subst (λ path. IsReadable path t) (sym is_at) (journal_readable c.args.project.now surroundings old new t flight can))))
+
+pub returns-in-None-clause-fits : goal.returns-in-None-clause-fits
+returns-in-None-clause-fits g c = λ t told surroundings old new is_work stands each can.
+    c.take_install_away.ensures.fits t (c.read_text.ensures.only_read.told ∙ told) stands
+
+pub returns-clause-fits : goal.returns-clause-fits
+returns-clause-fits g c = λ t told surroundings old new is_work stands each can.
+    let is_at = at_is c.args.project.now c.args.work.now c.in_ok-at.at is_work c.in_ok-at.ensures in
+    let file : (map.get t c.in_ok-at.at ≡ Some (File c.in-Some.text)) × (length c.in-Some.text < 2 ^ 64) = rw c.in-Some.is at (c.in_ok-read_text.ensures.text t told) in
+    c.finish_text.ensures.fits t (c.read_text.ensures.only_read.told ∙ told) surroundings old new is_work is_at
+    (subst (λ bytes. map.get t c.in_ok-at.at ≡ Some (File bytes)) (sym c.as_slice.ensures) file.0)
+    (subst (λ bytes. length bytes < 2 ^ 64) (sym c.as_slice.ensures) file.1)
+    (images_read (IsInFlight c.args.project.now surroundings old new) _ _ _ c.read_text.ensures.only_read each)

@@ -13,6 +13,9 @@ use Rattle.install_world.proofs.PartDone.{absent_is_none, reads_same}
 use Rattle.install_world.proofs.RecoveryRules.{ended_in, folder_is_some, images_read, no_work_no_journal, nothing_to_do, own_files, work_under}
 use Rattle.install_world.proofs.RemovalRules.{writes_none_on, writes_none_read, writes_none_start}
 use Rattle.install_world.proofs.Segments.{install_segment}
+use Rattle.std.proofs.Common.{refl, inl, inr}
+use Rattle.std.specs.Prelude.{◌⊎◌}
+use Rattle.install_world.proofs.RecoveryFits.{work_by_kind}
 use Rattle.install_world.proofs.recovery.finish_install.Goals as goal
 
 pub child-requires : goal.child-requires
@@ -114,3 +117,25 @@ pub returns-in-Folder-clause-bad : goal.returns-in-Folder-clause-bad
 returns-in-Folder-clause-bad g c = λ place is.
     let found = c.finish_claimed.ensures.bad place is in
     (only_read_on c.in_ok-stat.ensures.only_read found.0, λ t told. found.1 t (c.stat.ensures.only_read.told ∙ told) c.in_ok-work.ensures)
+
+pub returns-in_err-work-clause-fits : goal.returns-in_err-work-clause-fits
+returns-in_err-work-clause-fits g c = let p = err_from_is_err_and c.from_residual.result c.from_residual.ensures.1 in rw (p.1, p.2) (λ t told surroundings old new each can. refl)
+
+pub returns-in_err-stat-clause-fits : goal.returns-in_err-stat-clause-fits
+returns-in_err-stat-clause-fits g c = let p = err_from_is_err_and c.from_residual-in_err-stat.result c.from_residual-in_err-stat.ensures.1 in rw (p.1, p.2) (λ t told surroundings old new each can. refl)
+
+pub returns-in-Folder-clause-fits : goal.returns-in-Folder-clause-fits
+returns-in-Folder-clause-fits g c = λ t told surroundings old new each can.
+    let under = subst (λ at. is_root at ≡ false) (sym c.in_ok-work.ensures) (work_under c.args.project.now) in
+    c.finish_claimed.ensures.fits t (c.stat.ensures.only_read.told ∙ told) surroundings old new c.in_ok-work.ensures
+    (folder_is_some t c.in_ok-work.work c.in_ok-stat.field-0 (c.in_ok-stat.ensures.kind t told) c.in-Folder.is under)
+    (images_read (IsInFlight c.args.project.now surroundings old new) _ _ _ c.stat.ensures.only_read each) can
+
+pub returns-in_default-clause-fits : goal.returns-in_default-clause-fits
+returns-in_default-clause-fits g c = λ t told surroundings old new each can.
+    let under = subst (λ at. is_root at ≡ false) (sym c.in_ok-work.ensures) (work_under c.args.project.now) in
+    elim (work_by_kind t c.in_ok-work.work c.in_ok-stat.field-0 under (c.in_ok-stat.ensures.kind t told)
+    (subst (λ at. (map.get t at ≡ None) ⊎ (map.get t at ≡ Some Folder)) (sym c.in_ok-work.ensures) can.work)) [
+      | inl absent ↦ absurd (c.in_default.not-Absent absent)
+      | inr folder ↦ absurd (c.in_default.not-Folder folder)
+    ]

@@ -15,6 +15,10 @@ use Rattle.install_world.specs.Recovery.{IsNewProject, fault_of_journal}
 use Rattle.install_world.specs.declared.recovery_fault.RecoverFault.TheVariants.{BadJournal}
 use Rattle.install_world.proofs.RemovalRules.{writes_none_barrier, writes_none_on, writes_none_start}
 use Rattle.install_world.specs.declared.recovery_fault.Recovered.{Recovered}
+use Rattle.std.proofs.Common.{refl}
+use Rattle.tree_dev.specs.declared.entry.Entry.TheVariants.{Folder}
+use Rattle.install_world.proofs.PartDone.{told_still}
+use Rattle.install_world.proofs.RecoveryFits.{journal_not_bad, refused_journal, refused_part, refused_removal}
 use Rattle.install_world.proofs.recovery.finish_text.Goals as goal
 
 pub returns-in_err-journal-clause-writes_none : goal.returns-in_err-journal-clause-writes_none
@@ -159,3 +163,55 @@ returns-in_err-remove_folder-clause-bad g c = λ place is.
     let given = p.1 in
     let from = p.2 in
     absurd (no_bad_removal c.in_err-remove_folder.field-0.0 place cc)
+
+pub returns-in_err-journal-clause-fits : goal.returns-in_err-journal-clause-fits
+returns-in_err-journal-clause-fits g c =
+    let p = err_from_is_err_and c.from_residual.result c.from_residual.ensures.1 in
+    rw (p.1, p.2) (λ t told surroundings old new is_work is_at there small each.
+    refused_journal Recovered c.in_err-journal.field-0.0 (λ place is.
+    journal_not_bad c.args.project.now surroundings old new t c.args.text.now place
+    (image_reads (IsInFlight c.args.project.now surroundings old new) (g.T.Tree.meaning c.args.tree.now) t (g.met.T.Tree.tells_its_disk c.args.tree.now t told) each)
+    (subst (λ path. map.get t path ≡ Some (File c.args.text.now)) is_at there)
+    (c.in_err-journal.ensures.bad place (ap Err is))))
+
+pub returns-in_err-barrier-clause-fits : goal.returns-in_err-barrier-clause-fits
+returns-in_err-barrier-clause-fits g c = let p = err_from_is_err_and c.from_residual-in_err-barrier.result c.from_residual-in_err-barrier.ensures.1 in rw (p.1, p.2) (λ t told surroundings old new is_work is_at there small each. refl)
+
+pub returns-in_err-finish_journal-clause-fits : goal.returns-in_err-finish_journal-clause-fits
+returns-in_err-finish_journal-clause-fits g c =
+    let p = err_from_is_err_and c.from_residual-in_err-finish_journal.result c.from_residual-in_err-finish_journal.ensures.1 in
+    rw (p.1, p.2) (λ t told surroundings old new is_work is_at there small each.
+    let first = g.T.Tree.meaning c.args.tree.now in
+    let second = g.T.Tree.meaning c.barrier.new.self in
+    let disk = g.met.T.Tree.tells_its_disk c.args.tree.now t told in
+    let way = way_of c.args.project.now surroundings old new c.in_ok-journal.journal in
+    let on = way_begins c.args.project.now surroundings old new c.in_ok-journal.journal c.args.text.now t
+    (image_reads (IsInFlight c.args.project.now surroundings old new) first t disk each)
+    (subst (λ path. map.get t path ≡ Some (File c.args.text.now)) is_at there) small c.in_ok-journal.ensures.says in
+    let settles = c.in_ok-barrier.ensures.done t told in
+    let each_second = settled_images (IsOnWay way) first second t disk settles on in
+    let whole = subst (λ (disks : Disks). IsWhole disks.now) (sym settles.disks) (settled_is_whole first.disks) in
+    let told_second = settles.told ∙ told in
+    refused_part (Unit {0}) Recovered c.in_err-finish_journal.field-0.0
+    (c.in_err-finish_journal.ensures.fits t told_second whole way refl refl is_at each_second))
+
+pub returns-in_err-remove_folder-clause-fits : goal.returns-in_err-remove_folder-clause-fits
+returns-in_err-remove_folder-clause-fits g c =
+    let p = err_from_is_err_and c.from_residual-in_err-remove_folder.result c.from_residual-in_err-remove_folder.ensures.1 in
+    rw (p.1, p.2) (λ t told surroundings old new is_work is_at there small each.
+    let first = g.T.Tree.meaning c.args.tree.now in
+    let second = g.T.Tree.meaning c.barrier.new.self in
+    let disk = g.met.T.Tree.tells_its_disk c.args.tree.now t told in
+    let way = way_of c.args.project.now surroundings old new c.in_ok-journal.journal in
+    let on = way_begins c.args.project.now surroundings old new c.in_ok-journal.journal c.args.text.now t
+    (image_reads (IsInFlight c.args.project.now surroundings old new) first t disk each)
+    (subst (λ path. map.get t path ≡ Some (File c.args.text.now)) is_at there) small c.in_ok-journal.ensures.says in
+    let settles = c.in_ok-barrier.ensures.done t told in
+    let each_second = settled_images (IsOnWay way) first second t disk settles on in
+    let whole = subst (λ (disks : Disks). IsWhole disks.now) (sym settles.disks) (settled_is_whole first.disks) in
+    let told_second = settles.told ∙ told in
+    let then = told_still second (g.T.Tree.meaning c.finish_journal.new.tree) t c.in_ok-finish_journal.ensures.writes_none.tells told_second in
+    refused_removal (Unit {0}) Recovered c.in_err-remove_folder.field-0.0
+    (c.in_err-remove_folder.ensures.never_vanished then.0 then.1
+    (subst (λ path. map.get then.0 path ≡ Some Folder) (sym is_work)
+    (c.in_ok-finish_journal.ensures.work t told_second whole way refl refl is_at each_second then.0 then.1))))

@@ -2,6 +2,8 @@ use Rattle.std.proofs.Common.{◌∙◌, ℕ, List, Option, sym, arith}
 use Rattle.tree_dev.specs.declared.entry.ReadAnswer.{ReadAnswer}
 use Rattle.std.proofs.lemmas.Result.{err_from_is_err_and}
 use Rattle.install_world.proofs.RecoveryRules.{absent_read, bytes_read, read_failing}
+use Rattle.std.proofs.Common.{refl}
+use Rattle.install_world.proofs.RecoveryFits.{no_folder_read, not_too_long, refused_tree}
 use Rattle.install_world.proofs.recovery.read_text.Goals as goal
 
 pub returns-in_err-text-clause-only_read : goal.returns-in_err-text-clause-only_read
@@ -26,3 +28,20 @@ pub returns-in_err-copy-in-TooLong-clause-only_read : goal.returns-in_err-copy-i
 returns-in_err-copy-in-TooLong-clause-only_read g c =
     let p = err_from_is_err_and c.from_residual-in_err-copy-in-TooLong.result c.from_residual-in_err-copy-in-TooLong.ensures.1 in
     rw (p.1, p.2) c.in_ok-text.ensures.only_read
+
+pub returns-in_err-text-clause-fits : goal.returns-in_err-text-clause-fits
+returns-in_err-text-clause-fits g c = let p = err_from_is_err_and c.from_residual.result c.from_residual.ensures.1 in rw (p.1, p.2) (λ t told under readable. refused_tree (Option (List ℕ)) c.in_err-text.field-0.0)
+
+pub returns-in_err-copy-in-NotFile-clause-fits : goal.returns-in_err-copy-in-NotFile-clause-fits
+returns-in_err-copy-in-NotFile-clause-fits g c = let p = err_from_is_err_and c.from_residual-in_err-copy-in-NotFile.result c.from_residual-in_err-copy-in-NotFile.ensures.1 in rw (p.1, p.2) (λ t told under readable. refl)
+
+pub returns-in_ok-copy-in-NotFile-clause-fits : goal.returns-in_ok-copy-in-NotFile-clause-fits
+returns-in_ok-copy-in-NotFile-clause-fits g c = λ t told under readable.
+    absurd (no_folder_read t c.args.at.now under readable c.in_ok-text.field-0 (c.in_ok-text.ensures.answer t told) c.in-NotFile.is)
+
+pub returns-in_err-copy-in-TooLong-clause-fits : goal.returns-in_err-copy-in-TooLong-clause-fits
+returns-in_err-copy-in-TooLong-clause-fits g c = let p = err_from_is_err_and c.from_residual-in_err-copy-in-TooLong.result c.from_residual-in_err-copy-in-TooLong.ensures.1 in rw (p.1, p.2) (λ t told under readable. refl)
+
+pub returns-in_ok-copy-in-TooLong-clause-fits : goal.returns-in_ok-copy-in-TooLong-clause-fits
+returns-in_ok-copy-in-TooLong-clause-fits g c = λ t told under readable.
+    absurd (not_too_long t c.args.at.now under readable c.in_ok-text.field-0 (c.in_ok-text.ensures.answer t told) c.in-TooLong.is)

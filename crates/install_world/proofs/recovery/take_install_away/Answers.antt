@@ -9,6 +9,9 @@ use Rattle.install_world.proofs.PartCleared.{images_cleared, through_cleared}
 use Rattle.install_world.proofs.RecoveryRules.{image_reads, no_bad_removal, writes_none_removing}
 use Rattle.install_world.proofs.RemovalRules.{writes_none_barrier, writes_none_on, writes_none_start}
 use Rattle.install_world.specs.declared.recovery_fault.Recovered.{Recovered}
+use Rattle.std.proofs.Common.{refl, ◌∙◌}
+use Rattle.install_world.proofs.PlacesFree.{barrier_told}
+use Rattle.install_world.proofs.RecoveryFits.{refused_removal}
 use Rattle.install_world.proofs.recovery.take_install_away.Goals as goal
 
 pub returns-in_err-barrier-clause-writes_none : goal.returns-in_err-barrier-clause-writes_none
@@ -57,3 +60,13 @@ pub returns-clause-left : goal.returns-clause-left
 returns-clause-left g c = λ t told.
     images_cleared c.args.work.now t (g.T.Tree.meaning c.args.tree.now) (g.T.Tree.meaning c.barrier.new.self) (g.T.Tree.meaning c.remove_folder.new.tree)
     (c.in_ok-barrier.ensures.done t told) (sym (g.met.T.Tree.tells_its_disk c.args.tree.now t told).reads) c.remove_folder.ensures.removes
+
+pub returns-in_err-barrier-clause-fits : goal.returns-in_err-barrier-clause-fits
+returns-in_err-barrier-clause-fits g c = let p = err_from_is_err_and c.from_residual.result c.from_residual.ensures.1 in rw (p.1, p.2) (λ t told stands. refl)
+
+pub returns-in_err-remove_folder-clause-fits : goal.returns-in_err-remove_folder-clause-fits
+returns-in_err-remove_folder-clause-fits g c =
+    let p = err_from_is_err_and c.from_residual-in_err-remove_folder.result c.from_residual-in_err-remove_folder.ensures.1 in
+    rw (p.1, p.2) (λ t told stands.
+    refused_removal (Unit {0}) Recovered c.in_err-remove_folder.field-0.0
+    (c.in_err-remove_folder.ensures.never_vanished t (barrier_told _ _ c.barrier.ensures.moments ∙ told) stands))
