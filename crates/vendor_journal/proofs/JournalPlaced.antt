@@ -37,7 +37,7 @@ use Rattle.vendor_journal.specs.declared.prepared.Prepared.{Prepared}
 draft_is_work : (project : List (List ℕ)) → is_within (work_path project) (draft_path project) ≡ true
 draft_is_work project = in_work project (codes "journal.tmp" ∷ [])
 
-draft_not_journal : (project : List (List ℕ)) → behind (draft_path project) (journal_path project) ≡ None
+pub draft_not_journal : (project : List (List ℕ)) → behind (draft_path project) (journal_path project) ≡ None
 draft_not_journal project = behind_same_head project (codes ".install" ∷ codes "journal.tmp" ∷ []) (codes ".install" ∷ codes "journal" ∷ [])
 
 pub draft_staged : (project : List (List ℕ)) → IsStaged project (draft_path project)
@@ -71,7 +71,7 @@ draft_not_old project below =
 
 -- ---- what stays
 
-same_entry : (t now : FileTree) (path : List (List ℕ)) → map.get now path ≡ map.get t path → entry_at now path ≡ entry_at t path
+pub same_entry : (t now : FileTree) (path : List (List ℕ)) → map.get now path ≡ map.get t path → entry_at now path ≡ entry_at t path
 same_entry t now [] e = refl
 same_entry t now (x ∷ xs) e = e
 
@@ -93,7 +93,7 @@ module _ (project : List (List ℕ)) (t now : FileTree) (change : ChangesJournal
   staged_there number =
       ap (map.get now) (sym (append-nil (staged_path project number))) ∙ staged_stays number [] ∙ ap (map.get t) (append-nil (staged_path project number))
 
-  old_stays : (below : List (List ℕ)) → map.get now (old_path project ++ below) ≡ map.get t (old_path project ++ below)
+  pub old_stays : (below : List (List ℕ)) → map.get now (old_path project ++ below) ≡ map.get t (old_path project ++ below)
   old_stays below = change.others (old_path project ++ below) (journal_not_old project below) (draft_not_old project below)
 
   old_there : map.get now (old_path project) ≡ map.get t (old_path project)
@@ -139,7 +139,7 @@ drafted t project text = changed t (changes.Written (draft_path project) text)
 abbrev pub placed : FileTree → List (List ℕ) → List ℕ → FileTree
 placed t project text = changed (drafted t project text) (changes.Renamed (draft_path project) (journal_path project))
 
-written_elsewhere : (t : FileTree) (at path : List (List ℕ)) (text : List ℕ) → behind at path ≡ None → map.get (changed t (changes.Written at text)) path ≡ map.get t path
+pub written_elsewhere : (t : FileTree) (at path : List (List ℕ)) (text : List ℕ) → behind at path ≡ None → map.get (changed t (changes.Written at text)) path ≡ map.get t path
 written_elsewhere t at path text none = get-changed t (changes.Written at text) path ∙ by (eq_by_cmp path_cmp path at) refl
   where
     by : (same : Bool) → eq_by_cmp path_cmp path at ≡ same → cond same (Some (File text)) (map.get t path) ≡ map.get t path
@@ -148,11 +148,11 @@ written_elsewhere t at path text none = get-changed t (changes.Written at text) 
         absurd cc
     by false e = refl
 
-written_here : (t : FileTree) (at : List (List ℕ)) (text : List ℕ) → map.get (changed t (changes.Written at text)) at ≡ Some (File text)
+pub written_here : (t : FileTree) (at : List (List ℕ)) (text : List ℕ) → map.get (changed t (changes.Written at text)) at ≡ Some (File text)
 written_here t at text = get-changed t (changes.Written at text) at ∙ ap (λ same. cond same (Some (File text)) (map.get t at)) ((eq_by_cmp_equiv path_cmp_total).refl at)
 
 module _ (project : List (List ℕ)) (t : FileTree) (text : List ℕ) where
-  placed_changes : ChangesJournal project t (placed t project text)
+  pub placed_changes : ChangesJournal project t (placed t project text)
   placed_changes = record {
     others = λ path at draft.
         renamed_elsewhere (drafted t project text) (draft_path project) (journal_path project) path at draft ∙ written_elsewhere t (draft_path project) path text draft;

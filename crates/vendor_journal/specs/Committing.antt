@@ -1,10 +1,10 @@
 -- What a commit begins with, and what it makes.
-use Rattle.std.specs.Prelude.{◌≡◌, ℕ, ◌≤◌, List, Bool, IsTrue, None, is_some}
+use Rattle.std.specs.Prelude.{◌≡◌, ℕ, ◌≤◌, ◌<◌, ◌^◌, List, Bool, IsTrue, None, is_some}
 use Rattle.std.specs.FinMap as map
 use Rattle.tree_dev.specs.Trees.{FileTree, behind}
 use Rattle.tree_dev.specs.Device.{Meaning, Rose}
 use Rattle.tree_dev.specs.Projects.{journal_path}
-use Rattle.install_world.specs.InFlight.{Files, HasFiles, HasSurroundings, IsStagedJob, draft_path, job_result}
+use Rattle.install_world.specs.InFlight.{Files, HasFiles, HasSurroundings, IsStagedJob, draft_path, job_result, kept_path}
 use Rattle.install_world.specs.Moving.{Way}
 use Rattle.vendor_journal.specs.declared.prepared.Prepared.{Prepared}
 use Rattle.vendor_journal.specs.Prepared.{IsPrepared}
@@ -28,3 +28,7 @@ pub record Calls (before now : Meaning) (failed : Bool) : Type 0 where
 -- Only at and below the journal and its draft did a tree change.
 pub record ChangesJournal (project : List (List ℕ)) (t now : FileTree) : Type 0 where
   pub others : (path : List (List ℕ)) → behind (journal_path project) path ≡ None → behind (draft_path project) path ≡ None → map.get now path ≡ map.get t path
+
+-- Nothing stands where the targets of the parts from a number on go when they are taken away.
+pub record HasRoomFrom (project : List (List ℕ)) (first : ℕ) (t : FileTree) : Type 0 where
+  pub free : (number : ℕ) → first ≤ number → number < 2 ^ 64 → map.get t (kept_path project number) ≡ None

@@ -23,3 +23,15 @@ abbrev pub is_commit_fault : {X : Type 0} → Result X CommitFault → Bool
 is_commit_fault (Ok x) = false
 is_commit_fault (Err commit_faults.DeviceFault) = true
 is_commit_fault (Err (commit_faults.Vanished place)) = false
+
+abbrev pub is_vanished : {X : Type 0} → Result X CommitFault → Bool
+is_vanished (Ok x) = false
+is_vanished (Err commit_faults.DeviceFault) = false
+is_vanished (Err (commit_faults.Vanished place)) = true
+
+abbrev pub is_lost : {X : Type 0} → Result X ClaimFault → Bool
+is_lost (Ok x) = false
+is_lost (Err faults.Unfinished) = false
+is_lost (Err (faults.Vanished at)) = true
+is_lost (Err faults.DeviceFault) = false
+is_lost (Err faults.OutOfMemory) = false

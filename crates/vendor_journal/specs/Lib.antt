@@ -1,3 +1,4 @@
 pub mod Faults
 pub mod Prepared
 pub mod Committing
+pub mod JobTargets

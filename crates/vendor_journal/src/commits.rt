@@ -1,7 +1,8 @@
 //! The commit of an install: its journal, and then its parts.
 
-ghost use Rattle.std.specs.Prelude.{◌≡◌, ℕ, List, IfOk, OnOk, is_err};
-ghost use Rattle.tree_dev.specs.Trees.{FileTree};
+ghost use Rattle.std.specs.Prelude.{◌≡◌, ℕ, List, false, None, IfOk, OnOk, is_err};
+ghost use Rattle.std.specs.FinMap as map;
+ghost use Rattle.tree_dev.specs.Trees.{FileTree, IsTree};
 ghost use Rattle.tree_dev.specs.Device.{OfTold};
 ghost use Rattle.tree_dev.specs.Disk.{reading};
 ghost use Rattle.tree_dev.specs.Changes.{changed};
@@ -13,8 +14,8 @@ ghost use Rattle.install_world.specs.Moving.{ChangesPlaces, IsOnWay, Way};
 ghost use Rattle.install_world.specs.Recovery.{IsNewProject};
 ghost use Rattle.install_world.specs.Removals.{WritesNone};
 ghost use Rattle.install_world.specs.declared.target.Target.{Target as Targets};
-ghost use Rattle.vendor_journal.specs.Committing.{Calls, IsReady};
-ghost use Rattle.vendor_journal.specs.Faults.{is_commit_fault};
+ghost use Rattle.vendor_journal.specs.Committing.{Calls, HasRoomFrom, IsReady};
+ghost use Rattle.vendor_journal.specs.Faults.{is_commit_fault, is_vanished};
 ghost use Rattle.vendor_journal.specs.Prepared.{ArePrepared, IsPrepared, IsPreparedPart};
 
 use crate::{CommitFault, Hold, Prepared, PreparedPart};
@@ -27,6 +28,7 @@ fn write_draft<T: Tree>(tree: &mut T, prepared: &Prepared) -> Result<Did, Failed
     ensures steady { (project : List (List ℕ)) → prepared.now.draft ≡ draft_path project → Steady project (T.meaning tree.old) (T.meaning tree.new) }
     ensures written { IfOk result (λ did. did ≡ dids.Done → OfTold (T.meaning tree.old) (λ t. IsWhole (T.meaning tree.new).disks.now
         × EachImage (T.meaning tree.new) (λ left. left ≡ changed t (changes.Written prepared.now.draft prepared.now.text)))) }
+    ensures fits { IfOk result (λ did. OfTold (T.meaning tree.old) (λ t. (way : Way) (puts : ℕ → Files) → IsReady way puts prepared.now t → did ≡ dids.Done)) }
 {
     match tree.write(&prepared.draft, prepared.text.as_slice())? {
         Did::Done => {
@@ -47,6 +49,11 @@ fn name_draft<T: Tree>(tree: &mut T, prepared: &Prepared) -> Result<Did, Failed>
     ensures named { IfOk result (λ did. did ≡ dids.Done → OfTold (T.meaning tree.old) (λ _. (way : Way) (puts : ℕ → Files) (t : FileTree) → IsReady way puts prepared.now t
         → EachImage (T.meaning tree.old) (λ left. left ≡ changed t (changes.Written prepared.now.draft prepared.now.text))
         → IsWhole (T.meaning tree.new).disks.now × EachImage (T.meaning tree.new) (IsOnWay way))) }
+    ensures room { IfOk result (λ did. did ≡ dids.Done → OfTold (T.meaning tree.old) (λ _. (way : Way) (puts : ℕ → Files) (t : FileTree) → IsReady way puts prepared.now t
+        → EachImage (T.meaning tree.old) (λ left. left ≡ changed t (changes.Written prepared.now.draft prepared.now.text))
+        → HasRoomFrom way.project 0 (reading (T.meaning tree.new).disks.now))) }
+    ensures fits { IfOk result (λ did. OfTold (T.meaning tree.old) (λ _. (way : Way) (puts : ℕ → Files) (t : FileTree) → IsTree t → IsReady way puts prepared.now t
+        → EachImage (T.meaning tree.old) (λ left. left ≡ changed t (changes.Written prepared.now.draft prepared.now.text)) → did ≡ dids.Done)) }
 {
     match tree.rename(&prepared.draft, &prepared.at)? {
         Did::Done => {
@@ -65,6 +72,9 @@ fn place_journal<T: Tree>(tree: &mut T, prepared: &Prepared) -> Result<Did, Fail
         → Through (T.meaning tree.old) (T.meaning tree.new) (IsInFlight way.project way.surroundings way.old way.new)) }
     ensures placed { IfOk result (λ did. did ≡ dids.Done → OfTold (T.meaning tree.old) (λ t. (way : Way) (puts : ℕ → Files) → IsReady way puts prepared.now t
         → IsWhole (T.meaning tree.new).disks.now × EachImage (T.meaning tree.new) (IsOnWay way))) }
+    ensures room { IfOk result (λ did. did ≡ dids.Done → OfTold (T.meaning tree.old) (λ t. (way : Way) (puts : ℕ → Files) → IsReady way puts prepared.now t
+        → HasRoomFrom way.project 0 (reading (T.meaning tree.new).disks.now))) }
+    ensures fits { IfOk result (λ did. OfTold (T.meaning tree.old) (λ t. (way : Way) (puts : ℕ → Files) → IsReady way puts prepared.now t → did ≡ dids.Done)) }
 {
     match write_draft(tree, prepared)? {
         Did::Done => name_draft(tree, prepared),
@@ -94,6 +104,8 @@ fn move_prepared<T: Tree>(
         → EachImage (T.meaning tree.old) (IsOnWay way) → Through (T.meaning tree.old) (T.meaning tree.new) (IsOnWay way)) }
     ensures done { OnOk result (OfTold (T.meaning tree.old) (λ t. (project : List (List ℕ)) (number : ℕ) (target : Targets)
         → IsPreparedPart project number target part.now → IsPartDone target.gone project number target (reading (T.meaning tree.new).disks.now))) }
+    ensures never_vanished { OfTold (T.meaning tree.old) (λ t. (way : Way) (number : ℕ) (target : Targets) → IsPreparedPart way.project number target part.now
+        → IsPart way.journal.targets number target → IsOnWay way t → map.get t part.now.places.kept ≡ None → is_vanished result ≡ false) }
 {
     match move_part(tree, &part.places, part.gone)? {
         Did::Done => Ok(()),
@@ -110,6 +122,9 @@ fn move_parts<T: Tree>(tree: &mut T, parts: &[PreparedPart]) -> Result<(), Commi
     ensures done { OnOk result (OfTold (T.meaning tree.old) (λ t. IsWhole (T.meaning tree.old).disks.now → (way : Way)
         → ArePrepared way.project way.journal.targets parts.now
         → EachImage (T.meaning tree.old) (IsOnWay way) → AreAllDone way.project way.journal.targets (reading (T.meaning tree.new).disks.now))) }
+    ensures never_vanished { OfTold (T.meaning tree.old) (λ t. IsWhole (T.meaning tree.old).disks.now → (way : Way)
+        → ArePrepared way.project way.journal.targets parts.now
+        → EachImage (T.meaning tree.old) (IsOnWay way) → HasRoomFrom way.project 0 (reading (T.meaning tree.old).disks.now) → is_vanished result ≡ false) }
 {
     'parts: for (number, part) in parts.iter().enumerate() {
         move_prepared(tree, number, part)?;
@@ -125,6 +140,8 @@ fn finish<T: Tree>(tree: &mut T, prepared: &Prepared) -> Result<(), CommitFault>
         → Through (T.meaning tree.old) (T.meaning tree.new) (IsInFlight way.project way.surroundings way.old way.new)) }
     ensures finished { OnOk result (OfTold (T.meaning tree.old) (λ t. IsWhole (T.meaning tree.old).disks.now → (way : Way) → IsPrepared way.project way.journal prepared.now
         → EachImage (T.meaning tree.old) (IsOnWay way) → EachImage (T.meaning tree.new) (IsNewProject way))) }
+    ensures never_vanished { OfTold (T.meaning tree.old) (λ t. IsWhole (T.meaning tree.old).disks.now → (way : Way) → IsPrepared way.project way.journal prepared.now
+        → EachImage (T.meaning tree.old) (IsOnWay way) → HasRoomFrom way.project 0 (reading (T.meaning tree.old).disks.now) → is_vanished result ≡ false) }
 {
     move_parts(tree, prepared.parts.as_slice())?;
     match remove_journal(tree, &prepared.at)? {
@@ -137,7 +154,7 @@ fn finish<T: Tree>(tree: &mut T, prepared: &Prepared) -> Result<(), CommitFault>
 /// is moved to its target, and the journal is taken away. Whatever a crash leaves at any moment has the old project, or the
 /// new one, or is on the way from one to the other with a journal, by which recovery finishes it; after Ok every crash leaves
 /// the new project. It takes no memory. `DeviceFault` comes only where the device's count of faults rose. `Vanished(place)`: a
-/// call had no place for its change. `.install` is left for `release`.
+/// call had no place for its change; over a tree that tells that never comes. `.install` is left for `release`.
 pub fn commit<T: Tree>(tree: &mut T, _hold: &Hold, prepared: &Prepared) -> Result<(), CommitFault>
     ensures calls { Calls (T.meaning tree.old) (T.meaning tree.new) (is_commit_fault result) }
     ensures through { OfTold (T.meaning tree.old) (λ t. (way : Way) (puts : ℕ → Files) → IsReady way puts prepared.now t
@@ -145,6 +162,9 @@ pub fn commit<T: Tree>(tree: &mut T, _hold: &Hold, prepared: &Prepared) -> Resul
         → Through (T.meaning tree.old) (T.meaning tree.new) (IsInFlight way.project way.surroundings way.old way.new)) }
     ensures committed { OnOk result (OfTold (T.meaning tree.old) (λ t. (way : Way) (puts : ℕ → Files) → IsReady way puts prepared.now t
         → EachImage (T.meaning tree.new) (IsNewProject way))) }
+    // Over a tree that tells it is only a device that fails that keeps the commit from its end.
+    ensures never_vanished { OfTold (T.meaning tree.old) (λ t. (way : Way) (puts : ℕ → Files) → IsReady way puts prepared.now t
+        → EachImage (T.meaning tree.old) (λ left. left ≡ t) → is_vanished result ≡ false) }
 {
     match place_journal(tree, prepared)? {
         Did::Done => finish(tree, prepared),

@@ -1,6 +1,6 @@
 //! The claim on a project.
 
-ghost use Rattle.std.specs.Prelude.{◌≡◌, ℕ, List, IfOk, OnOk, Err, None, IsTrue, false};
+ghost use Rattle.std.specs.Prelude.{◌≡◌, ℕ, List, IfOk, OnOk, Err, None, Some, IsTrue, false};
 ghost use Rattle.std.specs.FinMap as map;
 ghost use Rattle.path_name.specs.Paths.{without_last};
 ghost use Rattle.tree_dev.specs.Trees.{has_folder};
@@ -10,7 +10,8 @@ ghost use Rattle.tree_dev.specs.Steady.{Steady};
 ghost use Rattle.tree_dev.specs.declared.change.Change.TheVariants as changes;
 ghost use Rattle.install_world.specs.InFlight.{IsThere};
 ghost use Rattle.install_world.specs.Removals.{Removes, WritesNone};
-ghost use Rattle.vendor_journal.specs.Faults.{is_device_fault};
+ghost use Rattle.tree_dev.specs.declared.entry.Entry.TheVariants as entries;
+ghost use Rattle.vendor_journal.specs.Faults.{is_device_fault, is_lost};
 ghost use Rattle.vendor_journal.specs.declared.hold_fault.ClaimFault.TheVariants as faults;
 
 use crate::ClaimFault;
@@ -49,13 +50,14 @@ pub fn claim<T: Tree>(alloc: Global, tree: &mut T, project: &Path) -> Result<Hol
     }
 }
 
-/// Releases a claim: removes `.install` with all that is in it. `Vanished(path)`: an entry in it changed under way. Whatever
-/// happens, the project and its surroundings stay.
+/// Releases a claim: removes `.install` with all that is in it. `Vanished(path)`: an entry in it changed under way; over a tree
+/// that tells, in which `.install` is a folder, that never comes. Whatever happens, the project and its surroundings stay.
 pub fn release<T: Tree>(alloc: Global, tree: &mut T, hold: Hold) -> Result<(), ClaimFault>
     ensures writes_none { WritesNone (T.meaning tree.old) (T.meaning tree.new) (is_device_fault result) }
     ensures removes { Removes (work_path hold.project) (T.meaning tree.old) (T.meaning tree.new) }
     ensures steady { Steady hold.project (T.meaning tree.old) (T.meaning tree.new) }
     ensures gone { OnOk result (OfTold (T.meaning tree.new) (λ t. map.get t (work_path hold.project) ≡ None)) }
+    ensures never_vanished { OfTold (T.meaning tree.old) (λ t. map.get t (work_path hold.project) ≡ Some entries.Folder → is_lost result ≡ false) }
 {
     let work = hold.project.child(alloc, b".install")?;
     remove_folder(alloc, tree, &work)?;

@@ -1,8 +1,9 @@
 //! Installs that are committed, stopped at each call, crashed and recovered.
 
-use crate::{ClaimFault, Hold, Prepared, claim, commit, prepare, release};
-use install_world::{Journal, Target, finish_install};
+use crate::{ClaimFault, Hold, Prepared, claim, commit, journal_of, prepare, release};
+use install_world::{Journal, Target, finish_install, journal_text};
 use path_name::{Items, Path, Text};
+use stage_job::{Job, Part, Source};
 use std::alloc::Global;
 use std::process::Abort;
 use std::test::*;
@@ -197,5 +198,33 @@ fn crashes_leave_old_or_new(rt: HostRuntime) -> Result<(), Fail> {
     for stop in 0..40u64 {
         assert!(rt; are_safe(alloc, stop)?);
     }
+    Ok(())
+}
+
+/// The journal's text of a job that puts a file at one target and takes another away.
+static JOB_TEXT: &[u8] =
+    b"install-journal 2\ngeneration 7\nmove 0 76656e646f722f61\ngone 1 636f6d706f7365722e6c6f636b\nend\n";
+
+fn job(alloc: Global) -> Result<Job, Fail> {
+    let mut parts = Vec::new(alloc);
+    parts.push(Part {
+        target: Path::read(alloc, b"vendor/a")?,
+        from: Source::Bytes(Text::of(Vec::from_slice(alloc, b"new")?)),
+    })?;
+    parts.push(Part {
+        target: Path::read(alloc, b"composer.lock")?,
+        from: Source::Gone,
+    })?;
+    Ok(Job {
+        parts: Items::of(parts),
+    })
+}
+
+#[test]
+fn jobs_have_journals(rt: HostRuntime) -> Result<(), Fail> {
+    let alloc = rt.alloc();
+    let journal = journal_of(alloc, &job(alloc)?, 7)?;
+    let text = journal_text(alloc, &journal)?;
+    assert!(rt; text.as_slice() == JOB_TEXT);
     Ok(())
 }

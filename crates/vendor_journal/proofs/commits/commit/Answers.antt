@@ -3,6 +3,7 @@ use Rattle.tree_dev.proofs.Stretches.{through_on}
 use Rattle.install_world.specs.InFlight.{IsInFlight}
 use Rattle.install_world.proofs.PartDone.{told_still}
 use Rattle.vendor_journal.proofs.CallRules.{calls_none, calls_on}
+use Rattle.std.proofs.Common.{refl}
 use Rattle.vendor_journal.proofs.commits.commit.Goals as goal
 
 pub returns-in_err-place_journal-clause-calls : goal.returns-in_err-place_journal-clause-calls
@@ -27,3 +28,19 @@ returns-in-Done-clause-committed g c = on_ok_weaker c.finish.result
     let placed = c.in_ok-place_journal.ensures.placed c.in-Done.is t told way puts ready in
     finished now.0 now.1 placed.0 way ready.made_ready placed.1)
     c.finish.ensures.finished
+
+pub returns-in_err-place_journal-clause-never_vanished : goal.returns-in_err-place_journal-clause-never_vanished
+returns-in_err-place_journal-clause-never_vanished g c =
+    let p = err_from_is_err_and c.from_residual.result c.from_residual.ensures.1 in rw (p.1, p.2) (λ t told way puts ready each. refl)
+
+pub returns-in-Done-clause-never_vanished : goal.returns-in-Done-clause-never_vanished
+returns-in-Done-clause-never_vanished g c = λ t told way puts ready each.
+    let now = told_still (g.T.Tree.meaning c.args.tree.now) (g.T.Tree.meaning c.place_journal.new.tree) t c.in_ok-place_journal.ensures.calls.tells told in
+    let placed = c.in_ok-place_journal.ensures.placed c.in-Done.is t told way puts ready in
+    c.finish.ensures.never_vanished now.0 now.1 placed.0 way ready.made_ready placed.1 (c.in_ok-place_journal.ensures.room c.in-Done.is t told way puts ready)
+
+pub returns-in-Misplaced-clause-never_vanished : goal.returns-in-Misplaced-clause-never_vanished
+returns-in-Misplaced-clause-never_vanished g c = λ t told way puts ready each.
+    let done = c.in_ok-place_journal.ensures.fits t told way puts ready in
+    let misplaced = c.in-Misplaced.is in
+    absurd cc

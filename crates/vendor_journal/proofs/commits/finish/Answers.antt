@@ -8,6 +8,7 @@ use Rattle.install_world.proofs.PartDone.{told_still}
 use Rattle.install_world.proofs.PartFinish.{way_reads}
 use Rattle.install_world.proofs.RemovalRules.{writes_none_on}
 use Rattle.vendor_journal.specs.Prepared.{ArePrepared}
+use Rattle.std.proofs.Common.{refl}
 use Rattle.vendor_journal.proofs.commits.finish.Goals as goal
 
 pub returns-in_err-move_parts-clause-writes_none : goal.returns-in_err-move_parts-clause-writes_none
@@ -73,3 +74,26 @@ returns-in-Misplaced-clause-through g c = λ t told whole way is each.
     let done = subst (AreAllDone way.project way.journal.targets) (sym disk.reads) (c.in_ok-move_parts.ensures.done t told whole way parts each) in
     way_then way first second _ (c.move_parts.ensures.through t told whole way parts each)
     (λ each_now. c.remove_journal.ensures.through now.0 now.1 (c.move_parts.ensures.writes_none.whole whole) way is.at_is done each_now)
+
+pub returns-in_err-move_parts-clause-never_vanished : goal.returns-in_err-move_parts-clause-never_vanished
+returns-in_err-move_parts-clause-never_vanished g c =
+    let p = err_from_is_err_and c.from_residual.result c.from_residual.ensures.1 in
+    rw (p.1, p.2) (λ t told whole way is each room.
+    c.in_err-move_parts.ensures.never_vanished t told whole way (subst (ArePrepared way.project way.journal.targets) (sym c.as_slice.ensures.value) is.parts_are) each room)
+
+pub returns-in_err-remove_journal-clause-never_vanished : goal.returns-in_err-remove_journal-clause-never_vanished
+returns-in_err-remove_journal-clause-never_vanished g c =
+    let p = err_from_is_err_and c.from_residual-in_err-remove_journal.result c.from_residual-in_err-remove_journal.ensures.1 in
+    rw (p.1, p.2) (λ t told whole way is each room. refl)
+
+pub returns-in-Misplaced-clause-never_vanished : goal.returns-in-Misplaced-clause-never_vanished
+returns-in-Misplaced-clause-never_vanished g c = λ t told whole way is each room.
+    let first = g.T.Tree.meaning c.args.tree.now in
+    let second = g.T.Tree.meaning c.move_parts.new.tree in
+    let parts = subst (ArePrepared way.project way.journal.targets) (sym c.as_slice.ensures.value) is.parts_are in
+    let now = told_still first second t c.move_parts.ensures.writes_none.tells told in
+    let disk = g.met.T.Tree.tells_its_disk c.move_parts.new.tree now.0 now.1 in
+    let on = way_reads way second now.0 disk (through_ends (IsOnWay way) first second (c.move_parts.ensures.through t told whole way parts each)) in
+    let done = c.in_ok-remove_journal.ensures.fits now.0 now.1 way is.at_is on.stands in
+    let misplaced = c.in-Misplaced.is in
+    absurd cc

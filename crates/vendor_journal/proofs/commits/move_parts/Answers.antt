@@ -8,6 +8,7 @@ use Rattle.install_world.proofs.PartDone.{told_still}
 use Rattle.install_world.proofs.PartFinish.{last_done, steps_then, way_reads}
 use Rattle.install_world.proofs.RemovalRules.{writes_none_on, writes_none_start}
 use Rattle.vendor_journal.proofs.PreparedParts.{others_stay, part_of}
+use Rattle.vendor_journal.proofs.CommitPlaces.{free_of, room_on}
 use Rattle.vendor_journal.proofs.commits.move_parts.Goals as goal
 
 pub parts-init : goal.parts-init
@@ -15,6 +16,7 @@ parts-init g c = record {
   writes_none = writes_none_start _;
   through = λ t told whole way are each. through_from (IsOnWay way) _ each;
   done = λ t told whole way are each j other below there. absurd (omega arith);
+  room = λ t told whole way are each room. room;
 }
 
 pub returns-in_err-move_prepared-clause-writes_none : goal.returns-in_err-move_prepared-clause-writes_none
@@ -52,6 +54,15 @@ parts-preserved g c =
                 c.move_prepared.ensures.moves disk.reads
                 (c.parts.invariant.done t told whole way are each j other (omega (arith, below, differs)) there)
           ];
+      room = λ t told whole way are each room.
+          let mine = part_of way.project way.journal.targets c.args.parts.now are c.parts.number c.index-parts-number.result read in
+          let before = g.T.Tree.meaning c.args.tree.now in
+          let here = g.T.Tree.meaning c.parts.tree in
+          let now = told_still before here t c.parts.invariant.writes_none.tells told in
+          let disk = g.met.T.Tree.tells_its_disk c.parts.tree now.0 now.1 in
+          let on = way_reads way here now.0 disk (through_ends (IsOnWay way) before here (c.parts.invariant.through t told whole way are each)) in
+          room_on way now.0 on c.parts.number mine.target c.index-parts-number.result mine.is_prepared mine.is_part _ _ c.move_prepared.ensures.moves
+          (c.parts.invariant.room t told whole way are each room);
     }
 
 pub returns-clause-done : goal.returns-clause-done
@@ -59,3 +70,17 @@ returns-clause-done g c = λ t told whole way are each. record {
   each = λ number target part. c.parts.invariant.done t told whole way are each number target
       (let inside = slice_get_within way.journal.targets number target part in let count = are.count in omega arith) part;
 }
+
+pub returns-in_err-move_prepared-clause-never_vanished : goal.returns-in_err-move_prepared-clause-never_vanished
+returns-in_err-move_prepared-clause-never_vanished g c =
+    let p = err_from_is_err_and c.from_residual.result c.from_residual.ensures.1 in
+    rw (p.1, p.2) (λ t told whole way are each room.
+    let read = slice_get_read c.args.parts.now _ c.parts.number c.index-parts-number.result refl (omega arith) c.index-parts-number.is in
+    let mine = part_of way.project way.journal.targets c.args.parts.now are c.parts.number c.index-parts-number.result read in
+    let before = g.T.Tree.meaning c.args.tree.now in
+    let here = g.T.Tree.meaning c.parts.tree in
+    let now = told_still before here t c.parts.invariant.writes_none.tells told in
+    let disk = g.met.T.Tree.tells_its_disk c.parts.tree now.0 now.1 in
+    let on = way_reads way here now.0 disk (through_ends (IsOnWay way) before here (c.parts.invariant.through t told whole way are each)) in
+    c.in_err-move_prepared.ensures.never_vanished now.0 now.1 way c.parts.number mine.target mine.is_prepared mine.is_part on
+    (free_of way now.0 on c.parts.number mine.target c.index-parts-number.result mine.is_prepared mine.is_part _ disk.reads (c.parts.invariant.room t told whole way are each room)))

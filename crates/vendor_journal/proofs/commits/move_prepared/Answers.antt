@@ -2,6 +2,7 @@ use Rattle.std.proofs.Common.{sym, subst}
 use Rattle.std.proofs.lemmas.Result.{err_from_is_err_and}
 use Rattle.tree_dev.specs.Disk.{reading}
 use Rattle.install_world.specs.InFlight.{IsPartDone}
+use Rattle.std.proofs.Common.{refl}
 use Rattle.vendor_journal.proofs.commits.move_prepared.Goals as goal
 
 pub returns-in_err-move_part-clause-writes_none : goal.returns-in_err-move_part-clause-writes_none
@@ -24,3 +25,13 @@ returns-in-Done-clause-done g c = λ t told project number target is.
 pub returns-in-Misplaced-clause-through : goal.returns-in-Misplaced-clause-through
 returns-in-Misplaced-clause-through g c = λ t told whole way number target is part each.
     c.move_part.ensures.through t told whole way number target is.places part (sym is.mark) each
+
+pub returns-in_err-move_part-clause-never_vanished : goal.returns-in_err-move_part-clause-never_vanished
+returns-in_err-move_part-clause-never_vanished g c =
+    let p = err_from_is_err_and c.from_residual.result c.from_residual.ensures.1 in rw (p.1, p.2) (λ t told way number target is part on none. refl)
+
+pub returns-in-Misplaced-clause-never_vanished : goal.returns-in-Misplaced-clause-never_vanished
+returns-in-Misplaced-clause-never_vanished g c = λ t told way number target is part on none.
+    let done = c.in_ok-move_part.ensures.fits t told way number target is.places part (sym is.mark) on (record { free = λ there why. none }) in
+    let misplaced = c.in-Misplaced.is in
+    absurd cc

@@ -34,3 +34,23 @@ returns-in-Done-clause-placed g c = IfOk-weaker c.name_draft.result _ _
 pub returns-in-Misplaced-clause-through : goal.returns-in-Misplaced-clause-through
 returns-in-Misplaced-clause-through g c = λ t told way puts ready each.
     steady_in_flight way puts c.args.prepared.now t ready _ _ each (c.write_draft.ensures.steady way.project ready.made_ready.draft_is)
+
+pub returns-in-Done-clause-room : goal.returns-in-Done-clause-room
+returns-in-Done-clause-room g c = IfOk-weaker c.name_draft.result _ _
+    (λ did named is t told way puts ready.
+    let now = told_still (g.T.Tree.meaning c.args.tree.now) (g.T.Tree.meaning c.write_draft.new.tree) t c.in_ok-write_draft.ensures.calls.tells told in
+    named is now.0 now.1 way puts t ready (c.in_ok-write_draft.ensures.written c.in-Done.is t told).1)
+    c.name_draft.ensures.room
+
+pub returns-in-Done-clause-fits : goal.returns-in-Done-clause-fits
+returns-in-Done-clause-fits g c = IfOk-weaker c.name_draft.result _ _
+    (λ did named t told way puts ready.
+    let now = told_still (g.T.Tree.meaning c.args.tree.now) (g.T.Tree.meaning c.write_draft.new.tree) t c.in_ok-write_draft.ensures.calls.tells told in
+    named now.0 now.1 way puts t (g.met.T.Tree.tells_trees c.args.tree.now t told) ready (c.in_ok-write_draft.ensures.written c.in-Done.is t told).1)
+    c.name_draft.ensures.fits
+
+pub returns-in-Misplaced-clause-fits : goal.returns-in-Misplaced-clause-fits
+returns-in-Misplaced-clause-fits g c = λ t told way puts ready.
+    let done = c.in_ok-write_draft.ensures.fits t told way puts ready in
+    let misplaced = c.in-Misplaced.is in
+    absurd cc

@@ -8,6 +8,8 @@ use Rattle.tree_dev.proofs.SteadyRules.{steady_start, steady_then_barrier, stead
 use Rattle.install_world.proofs.PartDone.{reads_after, told_still}
 use Rattle.vendor_journal.proofs.CallRules.{calls_barrier, calls_change, calls_start}
 use Rattle.vendor_journal.proofs.JournalPlaced.{draft_staged, settled_alone, settled_whole}
+use Rattle.install_world.proofs.PlacesFree.{placed_is_done}
+use Rattle.vendor_journal.proofs.CommitPlaces.{draft_has_place}
 use Rattle.vendor_journal.proofs.commits.write_draft.Goals as goal
 
 pub returns-in_err-write-clause-calls : goal.returns-in_err-write-clause-calls
@@ -63,3 +65,10 @@ returns-in-Misplaced-clause-calls g c = calls_change _ _ _ _ _ c.write.ensures.m
 pub returns-in-Misplaced-clause-steady : goal.returns-in-Misplaced-clause-steady
 returns-in-Misplaced-clause-steady g c = λ project is.
     steady_then_write project _ _ _ _ _ c.write.ensures.moments (subst (IsStaged project) (sym is) (draft_staged project)) (steady_start project _)
+
+pub returns-in-Misplaced-clause-fits : goal.returns-in-Misplaced-clause-fits
+returns-in-Misplaced-clause-fits g c = λ t told way puts ready.
+    let done = placed_is_done t (Written c.args.prepared.now.draft c.as_slice.result.now) c.in_ok-write.field-0 (c.in_ok-write.ensures.answer t told)
+    (draft_has_place way puts c.args.prepared.now t (g.met.T.Tree.tells_trees c.args.tree.now t told) ready c.as_slice.result.now) in
+    let misplaced = c.in-Misplaced.is in
+    absurd cc
