@@ -15,7 +15,7 @@ use Rattle.lock_file.specs.Entries.{is_among, entry_behind, entries_behind, Hold
 
 -- ---- the names that were seen
 
-at_key : (k q : List ℕ) → is_at (byte_cmp k) q ≡ bytes_are_equal q k
+pub at_key : (k q : List ℕ) → is_at (byte_cmp k) q ≡ bytes_are_equal q k
 at_key k q = sym (byte_ties k q) ∙ byte_equality.symm k q
 
 either : (b c : Bool) → cond b true c ≡ c || (b || false)

@@ -2,3 +2,14 @@ pub mod Behind
 pub mod Candidates
 pub mod Views
 pub mod FormedEntries
+pub mod Findings
+pub mod FlagRows
+pub mod RereadParts
+pub mod RereadPackages
+pub mod RereadLocks
+pub mod ExactReading
+pub mod LockDocuments
+pub mod KeptLocks
+pub mod KeptPlans
+pub mod LoadedPools
+pub mod OwnNames

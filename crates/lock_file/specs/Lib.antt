@@ -6,3 +6,7 @@ pub mod LockText
 pub mod LockPools
 pub mod InstalledText
 pub mod FormedLocks
+pub mod PlanLocks
+pub mod Searches
+pub mod Rereading
+pub mod KeptPools

@@ -5,7 +5,9 @@ ghost use Rattle.path_name.specs.Given.{GivesValue};
 ghost use Rattle.json_ordered.specs.Docs.{tree_of, pair_of};
 ghost use Rattle.manifest_read.specs.declared.fault.FieldFault.TheVariants.{OutOfMemory};
 ghost use Rattle.manifest_read.specs.Pointers.{below};
+ghost use Rattle.manifest_read.specs.Writable.{IsWritten};
 ghost use Rattle.lock_file.specs.FormedLocks.{IsLock};
+ghost use Rattle.lock_file.specs.Rereading.{IsKept};
 ghost use Rattle.lock_file.specs.Locks.{content_hash_of, no_items_or_fault, no_aliases_at, no_aliases_of, lock_from, lock_fields_of};
 
 use crate::lists::{Lists, lists_of};
@@ -103,6 +105,8 @@ pub fn from_doc(alloc: Global, doc: &Doc) -> Result<Lock, FieldFault>
     ensures exact { GivesValue OutOfMemory (lock_fields_of (tree_of doc.now)) result }
     // Each package is well-formed, and no two have one name.
     ensures formed { IfOk result IsLock }
+    // What is read of a JSON text can be written, and is read again then.
+    ensures kept { IsWritten (tree_of doc.now) → IfOk result IsKept }
 {
     let pairs = object(alloc, b"", doc)?;
     lock_from(alloc, b"", pairs)

@@ -7,11 +7,14 @@ mod entries;
 mod fault;
 mod installed;
 mod installed_printing;
+mod laws;
 mod lists;
 mod lock_pool;
 mod package_doc;
+mod plan_lock;
 mod printing;
 mod rows;
+mod runtime;
 mod types;
 mod written;
 
@@ -19,7 +22,9 @@ pub use document::from_doc;
 pub use fault::LockPoolFault;
 pub use installed::installed_from_doc;
 pub use installed_printing::print_installed;
+pub use laws::{pools_are_documented, valid_plans_have_own_names};
 pub use lock_pool::pool_of;
+pub use plan_lock::lock_of;
 pub use printing::print;
 pub use types::{FlagRow, Installed, Lock, Locked, PlatformLink};
 

@@ -3,6 +3,7 @@
 ghost use Rattle.std.specs.Prelude.{◌≡◌, ◌++◌, ◌∷◌, [], map, IfOk, OnOk};
 ghost use Rattle.json_ordered.specs.Docs.{tree_of, pair_of};
 ghost use Rattle.lock_file.specs.LockText.{readme_lines, readme_tree, grade_text, plugin_version, packages_tree, flags_tree, platform_tree, front_pairs, back_pairs, lock_tree, lock_text};
+ghost use Rattle.lock_file.specs.Rereading.{IsKept, IsTextOf};
 
 use crate::types::{FlagRow, Lock, PlatformLink};
 use crate::written::{Member, add, add_string, array, object, string, with_line_end};
@@ -136,10 +137,13 @@ fn lock_doc(alloc: Global, lock: &Lock) -> Result<Doc, AllocError>
 /// of a prefix that was written as a text is written as one. Names, versions, constraints, prefixes and paths stand as
 /// they were written, a url as the text of its folder.
 ///
-/// Its one refusal is want of memory.
+/// What it gives for a lock that [`from_doc`](crate::from_doc) or [`lock_of`](crate::lock_of) gave is read as that lock
+/// again. Its one refusal is want of memory.
 #[tactic(auto, unfolding(crate::specs::LockText::lock_text))]
 pub fn print(alloc: Global, lock: &Lock) -> Result<Text, AllocError>
     ensures text { IfOk result (λ text. text ≡ lock_text lock.now) }
+    // A JSON text whose value says just that lock.
+    ensures kept { IsKept lock.now → IfOk result (IsTextOf lock.now) }
 {
     let doc = lock_doc(alloc, lock)?;
     with_line_end(alloc, &doc)

@@ -5,7 +5,9 @@ use std::alloc::Global;
 use std::test::*;
 
 mod composer;
+mod plans;
 mod texts;
+mod twelve;
 
 fn document(alloc: Global, text: &str) -> Option<Doc> {
     json_ordered::read(alloc, text.as_bytes()).ok()
