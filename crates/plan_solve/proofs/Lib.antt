@@ -1,0 +1,4 @@
+pub mod Choices
+pub mod Queue
+pub mod Searching
+pub mod Work

@@ -1,0 +1,10 @@
+use Rattle.std.proofs.Common.{◌∙◌, ap, sym, set, true, length}
+use Rattle.plan_rules.proofs.Marked.{one_marked}
+use Rattle.plan_solve.proofs.Queue.{queue_more}
+use Rattle.plan_solve.proofs.members.Members.put.Goals as goal
+
+pub returns : goal.returns
+returns c = λ before known. record {
+  marks = c.mark.ensures ∙ ap (λ marks. set marks c.args.number true) known.marks ∙ sym (one_marked (length c.args.pool.now.candidates) c.args.number before);
+  queue = rw (c.in_ok-put_links.ensures, c.requires_of.ensures, known.queue) (sym (queue_more c.args.pool.now before c.args.number));
+}
