@@ -1,0 +1,16 @@
+pub mod StableSort
+pub mod KeyGroups
+pub mod FirstOfEach
+pub mod KnownKeys
+pub mod FirstEntries
+pub mod GroupRuns
+pub mod FallingKeys
+pub mod PrefixRows
+pub mod ProjectJobs
+pub mod PackageRules
+pub mod BuiltAnswers
+pub mod MergedRows
+pub mod OrderedRows
+pub mod LookedUp
+pub mod PrintedTables
+pub mod WalkedParts

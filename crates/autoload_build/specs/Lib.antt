@@ -1,0 +1,4 @@
+pub mod Jobs
+pub mod BuiltTables
+pub mod Answers
+pub mod Steps
