@@ -5,7 +5,7 @@ mod message;
 mod refusal;
 mod status;
 
-pub use message::{error_line, memory_line, output_line};
+pub use message::{error_line, memory_line, output_line, put_rule};
 pub use refusal::{BrokenRule, DocumentFault, NamedFile, Place, Refusal};
 pub use status::status_of;
 

@@ -151,8 +151,9 @@ fn put_broken(line: &mut Vec<u8>, rule: &BrokenRule) -> Result<(), AllocError>
     put_rule(line, rule)
 }
 
+/// Puts the words of a broken rule and its names behind a text. Its one refusal is want of memory.
 #[tactic(auto, unfolding(crate::specs::Messages::rule_text))]
-fn put_rule(line: &mut Vec<u8>, rule: &BrokenRule) -> Result<(), AllocError>
+pub fn put_rule(line: &mut Vec<u8>, rule: &BrokenRule) -> Result<(), AllocError>
     ensures { OnOk result (line.new.items ≡ line.old.items ++ rule_text rule.now) }
 {
     match rule {
