@@ -1,10 +1,10 @@
 -- How a run ends, by what its answer is.
 use Rattle.std.proofs.Common.{◌≡◌, ◌≢◌, ◌⊎◌, ℕ, Bool, true, false, List, Option, Some, None, Result, Ok, Err, IsTrue, refl, sym, ap, subst, ◌∙◌, inl, inr, arith}
-use Rattle.std.specs.Prelude.{not, ◌&&◌, ◌||◌, nat_eq, IfOk}
-use Rattle.std.proofs.lemmas.Bool.{false≢true, eq-eqb, eqb-true}
+use Rattle.std.specs.Prelude.{not, nat_eq, ◌≤◌, IfOk, IfSome}
+use Rattle.std.proofs.lemmas.Bool.{false≢true, eq-eqb}
 use Rattle.path_name.proofs.Joining.{both_true}
 use Rattle.tree_dev.specs.Device.{Meaning, OnlyRead, Rose}
-use Rattle.run_answers.specs.Faults.{is_free, is_of_tree, is_of_device, is_device_fault}
+use Rattle.run_answers.specs.Faults.{is_free, is_device_fault}
 use Rattle.run_answers.specs.Statuses.{status_of}
 use Rattle.run_answers.specs.declared.refusal.NamedFile.TheVariants as named_files
 use Rattle.run_answers.specs.declared.refusal.Refusal.{Refusal}
@@ -18,9 +18,9 @@ use Rattle.class_lookup.specs.declared.fault.LookupFault.{LookupFault}
 use Rattle.class_lookup.specs.declared.fault.LookupFault.TheVariants as lookups
 use Rattle.class_lookup.specs.ClassNames.{class_name_of}
 use Rattle.composer_words.specs.Words.{command_of}
-use Rattle.composer_top.specs.Chosen.{or_refused, chosen_in}
+use Rattle.composer_top.specs.Chosen.{or_refused}
 use Rattle.composer_top.specs.Outcome.Lookup as looking
-use Rattle.composer_top.specs.Outcome.{Tells, KeepsToWords, Outputs, Concluded, Ends, EndsByWords, EndsWithAnswer, reply_to, refusal_in, task_refusal, refusal_of_choice, words_refusal}
+use Rattle.composer_top.specs.Outcome.{Tells, KeepsToWords, Outputs, Concluded, Ends, EndsByWords, EndsWithAnswer, IsFinding, reply_to, refusal_in, task_refusal, refusal_of_choice, words_refusal}
 use Rattle.composer_top.specs.declared.report.Report.{Report}
 
 -- what a run ends with: its answer, or want of memory
@@ -87,22 +87,31 @@ not_so : (b : Bool) → not b ≡ true → b ≡ false
 not_so true e = absurd (false≢true e)
 not_so false e = refl
 
+-- the status with which an answer ends: 0, or 1 with what was found, or that of the refusal
+abbrev HasStatus : Result Report Refusal → ℕ → Type 0
+HasStatus (Ok report) status = status ≤ 1
+HasStatus (Err refusal) status = status ≡ status_of refusal
+
+at_most_one : (lines : List ℕ) (end : Option Refusal) (status : ℕ) → IfSome end (λ refusal. status_of refusal ≡ 1) → status ≡ (reply_to lines end).status → status ≤ 1
+at_most_one lines None status finding e = omega (arith, e)
+at_most_one lines (Some refusal) status finding e = omega (arith, e, finding)
+
 -- The status is that of the answer, or that of want of memory, or the output failed.
 pub data Source (outputs : Outputs) (answer : Result Report Refusal) (status : ℕ) : Type 0 where
-  own : status ≡ status_in answer → Source outputs answer status
+  own : HasStatus answer status → Source outputs answer status
   no_memory : status ≡ 10 → Source outputs answer status
   no_output : status ≡ 9 → Rose outputs.out_before.faults outputs.out_now.faults → Source outputs answer status
 
 module _ (outputs : Outputs) (status : ℕ) where
-  pub source : (answer : Result Report Refusal) → IfOk answer (λ report. report.end ≡ None) → Told outputs answer status → Source outputs answer status
-  source (Ok report) end (inl (inl replied)) = own (replied.ended ∙ ap (λ e. (reply_to report.lines e).status) end)
-  source (Ok report) end (inl (inr failed)) = no_output failed.ended failed.rose
-  source (Ok report) end (inr (inl replied)) = no_memory replied.ended
-  source (Ok report) end (inr (inr failed)) = no_output failed.ended failed.rose
-  source (Err refusal) end (inl (inl replied)) = own replied.ended
-  source (Err refusal) end (inl (inr failed)) = no_output failed.ended failed.rose
-  source (Err refusal) end (inr (inl replied)) = no_memory replied.ended
-  source (Err refusal) end (inr (inr failed)) = no_output failed.ended failed.rose
+  pub source : (answer : Result Report Refusal) → IfOk answer IsFinding → Told outputs answer status → Source outputs answer status
+  source (Ok report) finding (inl (inl replied)) = own (at_most_one report.lines report.end status finding replied.ended)
+  source (Ok report) finding (inl (inr failed)) = no_output failed.ended failed.rose
+  source (Ok report) finding (inr (inl replied)) = no_memory replied.ended
+  source (Ok report) finding (inr (inr failed)) = no_output failed.ended failed.rose
+  source (Err refusal) finding (inl (inl replied)) = own replied.ended
+  source (Err refusal) finding (inl (inr failed)) = no_output failed.ended failed.rose
+  source (Err refusal) finding (inr (inl replied)) = no_memory replied.ended
+  source (Err refusal) finding (inr (inr failed)) = no_output failed.ended failed.rose
 
   -- the status of a fault of the device is that of the answer
   pub device_fault : (answer : Result Report Refusal) → Source outputs answer status → status ≡ 8 → is_device_fault answer ≡ true
@@ -181,6 +190,6 @@ module _ (outputs : Outputs) (status : ℕ) where
   refused refusal answer (inr memory) (inl x) = inr (subst (λ a. Concluded outputs a status) memory x)
   refused refusal answer keeps (inr y) = inr y
 
-  pub ends_by_words : (early : Option Refusal) (answer : Result Report Refusal) → IfOk answer (λ report. report.end ≡ None) → KeepsToWords early answer → Told outputs answer status → EndsByWords outputs early status
-  ends_by_words None answer end keeps told = not_usage answer keeps (source outputs status answer end told)
-  ends_by_words (Some refusal) answer end keeps told = refused refusal answer keeps told
+  pub ends_by_words : (early : Option Refusal) (answer : Result Report Refusal) → IfOk answer IsFinding → KeepsToWords early answer → Told outputs answer status → EndsByWords outputs early status
+  ends_by_words None answer finding keeps told = not_usage answer keeps (source outputs status answer finding told)
+  ends_by_words (Some refusal) answer finding keeps told = refused refusal answer keeps told

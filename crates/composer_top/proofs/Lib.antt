@@ -1,2 +1,4 @@
 pub mod Endings
+pub mod FileFaults
+pub mod WholeSets
 pub mod WordsFirst

@@ -1,5 +1,5 @@
 -- What the words alone refuse comes before all else.
-use Rattle.std.proofs.Common.{◌≡◌, ℕ, Bool, true, false, List, Option, Some, None, Result, Ok, Err, refl, sym, ap, ◌∙◌}
+use Rattle.std.proofs.Common.{◌≡◌, ℕ, List, Option, Some, None, Result, Ok, Err, ap}
 use Rattle.std.specs.Prelude.{is_some, unwrap_or}
 use Rattle.std.proofs.lemmas.Bool.{false≢true}
 use Rattle.path_name.specs.Given.{◌>>=◌}
@@ -12,7 +12,6 @@ use Rattle.composer_words.specs.declared.chosen.Task.TheVariants as tasks
 use Rattle.composer_top.specs.Chosen.{chosen_in}
 use Rattle.composer_top.specs.Outcome.Lookup.{named, looked_up, lookup_outcome}
 use Rattle.composer_top.specs.Outcome.{refusal_in, task_refusal, task_outcome, refusal_of_choice, words_refusal, outcome_of}
-use Rattle.composer_top.specs.declared.report.Report.{Report}
 
 module _ (refusal : Refusal) where
   same : {X : Type 0} (first : Refusal) → Some first ≡ Some refusal → ◌≡◌ {A = Result X Refusal} (Err first) (Err refusal)
@@ -32,7 +31,7 @@ module _ (refusal : Refusal) where
   task_first t project (tasks.Install ways) e = same refusals.Usage e
   task_first t project (tasks.Update ways) e = same refusals.Usage e
   task_first t project (tasks.DumpAutoload ways) e = same refusals.Usage e
-  task_first t project tasks.Check e = same refusals.Usage e
+  task_first t project tasks.Check e = none e
   task_first t project tasks.Recover e = same refusals.Usage e
   task_first t project (tasks.Demo number) e = same refusals.Usage e
 

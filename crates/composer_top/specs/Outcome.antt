@@ -1,8 +1,13 @@
 -- What a command answers, and how a run ends.
+pub mod Texts
+pub mod Documents
 pub mod Tables
 pub mod Lookup
 pub mod Files
-use Rattle.std.specs.Prelude.{◌≡◌, ◌≢◌, ◌⊎◌, ℕ, List, [], ◌∷◌, ◌++◌, IsTrue, Option, Some, None, Result, Ok, Err, MatchResult, IfErr}
+pub mod ProjectManifest
+pub mod ProjectLock
+pub mod Check
+use Rattle.std.specs.Prelude.{◌≡◌, ◌≢◌, ◌⊎◌, ℕ, List, [], ◌∷◌, ◌++◌, IsTrue, Option, Some, None, Result, Ok, Err, MatchResult, IfErr, IfSome}
 use Rattle.path_name.specs.Given.{◌>>=◌}
 use Rattle.path_name.specs.Paths.{path_text}
 use Rattle.tree_dev.specs.Trees.{FileTree}
@@ -19,6 +24,7 @@ use Rattle.run_answers.specs.declared.refusal.Refusal.TheVariants as refusals
 use Rattle.composer_top.specs.Chosen.{chosen_in}
 use Rattle.composer_top.specs.Outcome.Lookup.{named, lookup_outcome}
 use Rattle.composer_top.specs.Outcome.Files.{files_outcome}
+use Rattle.composer_top.specs.Outcome.Check.{check_outcome}
 use Rattle.composer_top.specs.declared.report.Report.{Report}
 
 -- ---- the outcome
@@ -37,7 +43,7 @@ task_outcome t project tasks.Files = files_outcome t project >>= λ lines. Ok (p
 task_outcome t project (tasks.Install ways) = Err refusals.Usage
 task_outcome t project (tasks.Update ways) = Err refusals.Usage
 task_outcome t project (tasks.DumpAutoload ways) = Err refusals.Usage
-task_outcome t project tasks.Check = Err refusals.Usage
+task_outcome t project tasks.Check = check_outcome t project
 task_outcome t project tasks.Recover = Err refusals.Usage
 task_outcome t project (tasks.Demo number) = Err refusals.Usage
 
@@ -57,7 +63,7 @@ task_refusal tasks.Files = None
 task_refusal (tasks.Install ways) = Some refusals.Usage
 task_refusal (tasks.Update ways) = Some refusals.Usage
 task_refusal (tasks.DumpAutoload ways) = Some refusals.Usage
-task_refusal tasks.Check = Some refusals.Usage
+task_refusal tasks.Check = None
 task_refusal tasks.Recover = Some refusals.Usage
 task_refusal (tasks.Demo number) = Some refusals.Usage
 
@@ -73,6 +79,10 @@ words_refusal words = refusal_of_choice (chosen_in words)
 -- What a step gives is what is wanted, or the tree failed, or memory ran out.
 abbrev pub Tells : {X Y : Type 0} → (X → Y) → Result Y Refusal → Result X Refusal → Type 0
 Tells view wanted result = MatchResult result (λ x. wanted ≡ Ok (view x)) (λ refusal. IsTrue (is_free refusal) ⊎ (wanted ≡ Err refusal))
+
+-- A report ends well, or with what was found: its status is then 1.
+abbrev pub IsFinding : Report → Type 0
+IsFinding report = IfSome report.end (λ refusal. status_of refusal ≡ 1)
 
 -- What the words refuse is refused, unless memory ran out; else no such refusal comes.
 abbrev pub KeepsToWords : {X : Type 0} → Option Refusal → Result X Refusal → Type 0

@@ -10,3 +10,7 @@ composer_name = codes "composer"
 -- where a table file stands
 abbrev pub table_place : List (List ℕ) → TableFile → List (List ℕ)
 table_place project table = project ++ vendor_name ∷ composer_name ∷ table_name table ∷ []
+
+-- composer.json
+abbrev pub manifest_place : List (List ℕ) → List (List ℕ)
+manifest_place project = project ++ codes "composer.json" ∷ []

@@ -4,8 +4,8 @@ ghost use Rattle.std.specs.Prelude.{◌≡◌, ◌++◌, [], ◌∷◌, IfOk, Is
 ghost use Rattle.path_name.specs.Paths.{path_of};
 ghost use Rattle.table_scan.specs.TableGrammar.{vendor_name};
 ghost use Rattle.table_scan.specs.TableNames.{table_name};
-ghost use Rattle.tree_dev.specs.Projects.{journal_path};
-ghost use Rattle.composer_top.specs.Places.{composer_name, table_place};
+ghost use Rattle.tree_dev.specs.Projects.{journal_path, lock_path};
+ghost use Rattle.composer_top.specs.Places.{composer_name, table_place, manifest_place};
 
 use path_name::{Path, PathFault};
 use std::alloc::{AllocError, Global};
@@ -23,6 +23,20 @@ pub fn journal(alloc: Global, project: &Path) -> Result<Path, AllocError>
     ensures { IfOk result (λ path. path ≡ journal_path project.now) }
 {
     project.join(alloc, &known_path(alloc, journal_text())?)
+}
+
+/// Where the manifest of the project stands. Its one refusal is want of memory.
+pub fn manifest(alloc: Global, project: &Path) -> Result<Path, AllocError>
+    ensures { IfOk result (λ path. path ≡ manifest_place project.now) }
+{
+    project.child(alloc, b"composer.json")
+}
+
+/// Where the lock of the project stands. Its one refusal is want of memory.
+pub fn lock(alloc: Global, project: &Path) -> Result<Path, AllocError>
+    ensures { IfOk result (λ path. path ≡ lock_path project.now) }
+{
+    project.child(alloc, b"composer.lock")
 }
 
 /// The path of a text that names one.

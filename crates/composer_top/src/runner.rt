@@ -4,8 +4,9 @@ ghost use Rattle.std.specs.Prelude.{◌≡◌, map, nat_eq, None, IfOk};
 ghost use Rattle.std.specs.String.{string_bytes};
 ghost use Rattle.tree_dev.specs.Device.{OnlyRead, OfTold, Rose};
 ghost use Rattle.run_answers.specs.Faults.{is_device_fault};
-ghost use Rattle.composer_top.specs.Outcome.{Tells, KeepsToWords, outcome_of, task_outcome, task_refusal, words_refusal, path_line, Ends, EndsByWords, EndsWithAnswer};
+ghost use Rattle.composer_top.specs.Outcome.{Tells, KeepsToWords, outcome_of, task_outcome, task_refusal, words_refusal, path_line, Ends, EndsByWords, EndsWithAnswer, IsFinding};
 
+use crate::check::check;
 use crate::chosen::chosen;
 use crate::files::files;
 use crate::lookup::lookup;
@@ -22,7 +23,7 @@ fn perform<T: Tree>(alloc: Global, words: &[String], tree: &mut T) -> Result<Rep
     ensures told { OfTold (T.meaning tree.old) (λ t. Tells (λ report. report) (outcome_of t (map string_bytes words.now)) result) }
     ensures only_read { OnlyRead (T.meaning tree.old) (T.meaning tree.new) (is_device_fault result) }
     ensures words { KeepsToWords (words_refusal (map string_bytes words.now)) result }
-    ensures end { IfOk result (λ report. report.end ≡ None) }
+    ensures end { IfOk result IsFinding }
 {
     let chosen = chosen(alloc, words)?;
     perform_task(alloc, &chosen.project, &chosen.task, tree)
@@ -38,13 +39,14 @@ fn perform_task<T: Tree>(
     ensures told { OfTold (T.meaning tree.old) (λ t. Tells (λ report. report) (task_outcome t project.now task.now) result) }
     ensures only_read { OnlyRead (T.meaning tree.old) (T.meaning tree.new) (is_device_fault result) }
     ensures words { KeepsToWords (task_refusal task.now) result }
-    ensures end { IfOk result (λ report. report.end ≡ None) }
+    ensures end { IfOk result IsFinding }
 {
     match task {
         Task::Lookup(word) => Ok(plain(path_line(alloc, &lookup(alloc, project, word, tree)?)?)),
         Task::Files => Ok(plain(files(alloc, project, tree)?)),
         Task::Install(_) | Task::Update(_) | Task::DumpAutoload(_) => Err(Refusal::Usage),
-        Task::Check | Task::Recover | Task::Demo(_) => Err(Refusal::Usage),
+        Task::Check => check(alloc, project, tree),
+        Task::Recover | Task::Demo(_) => Err(Refusal::Usage),
     }
 }
 
@@ -65,10 +67,11 @@ fn path_line(alloc: Global, path: &Path) -> Result<Text, AllocError>
     Ok(Text::of(line))
 }
 
-/// Runs a command. `words` are the words behind the program's name, read as clap reads them. `lookup NAME` and `files`
-/// are the commands that are built; `-d DIR` names the project's folder, which is the tree's root without it. The
-/// answer is lines on `out`, or a refusal's line `error: TEXT` on `errs`; the status is 0, or that of the refusal, as
-/// `run_answers` has them. A fault of `errs` changes no status. The tree is only read.
+/// Runs a command. `words` are the words behind the program's name, read as clap reads them. `lookup NAME`, `files`
+/// and `check` are the commands that are built; `-d DIR` names the project's folder, which is the tree's root without
+/// it. The answer is lines on `out`, or a refusal's line `error: TEXT` on `errs`, and both where `check` finds a broken
+/// rule; the status is 0, or that of the refusal, as `run_answers` has them. A fault of `errs` changes no status. The
+/// tree is only read.
 pub fn run<T: Tree, S: Sink, E: Sink>(
     alloc: Global,
     words: &[String],

@@ -8,11 +8,12 @@ ghost use Rattle.composer_top.specs.Outcome.{Tells};
 ghost use Rattle.composer_top.specs.Outcome.Tables.{not_pending, table_text_in, is_there, has_class_table, class_texts_in, file_texts_in, tables_in, class_tables_in, file_tables_in};
 
 use crate::places;
+use crate::texts::text_at;
 use path_name::{Path, Text};
 use run_answers::Refusal;
 use std::alloc::Global;
 use table_scan::{TableFile, TableTexts, Tables};
-use tree_dev::{FILE_BYTES, Kind, LimitKind, ReadAnswer, Tree};
+use tree_dev::{Kind, Tree};
 
 /// Refuses where anything stands in the journal's place: an install is being finished, or was stopped.
 #[tactic(auto, unfolding(crate::specs::Outcome::Tables::not_pending))]
@@ -40,13 +41,7 @@ fn table_text<T: Tree>(
     ensures only_read { OnlyRead (T.meaning tree.old) (T.meaning tree.new) (is_device_fault result) }
     ensures causes { IfErr result (λ refusal. IsTrue (is_of_tree refusal)) }
 {
-    let place = places::table_file(alloc, project, table)?;
-    match tree.read(alloc, &place, FILE_BYTES)? {
-        ReadAnswer::Bytes(text) => Ok(Some(text)),
-        ReadAnswer::Absent => Ok(None),
-        ReadAnswer::NotFile => Err(Refusal::OtherEntry(place)),
-        ReadAnswer::TooLong => Err(Refusal::Limit(LimitKind::FileBytes(place))),
-    }
+    text_at(alloc, places::table_file(alloc, project, table)?, tree)
 }
 
 /// The texts of the tables by which classes are looked up. `NoTables` comes where there is neither a table of prefixes

@@ -1,4 +1,7 @@
+mod lock_refusals;
+mod locks;
 mod of_composer;
+mod of_composer_locks;
 
 use crate::run;
 use path_name::{Path, Text};
@@ -302,7 +305,7 @@ fn word_refusals(alloc: Global) -> Result<Vec<Row>, Fail> {
     rows.push(refused(&ALL, "lookup App\\Home App\\Home", 2, USAGE))?;
     rows.push(refused(&ALL, "-d .. files", 2, USAGE))?;
     rows.push(refused(&PENDING, "install", 2, USAGE))?;
-    rows.push(refused(&PENDING, "check", 2, USAGE))?;
+    rows.push(refused(&PENDING, "recover", 2, USAGE))?;
     rows.push(refused(&ALL, "lookup App\\1", 2, BAD_NAME))?;
     rows.push(refused(&ALL, "lookup App\\..\\X", 2, BAD_NAME))?;
     rows.push(refused(&ALL, "lookup App\\", 2, BAD_NAME))?;

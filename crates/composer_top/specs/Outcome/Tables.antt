@@ -1,14 +1,10 @@
 -- The table files of a project over a tree: their texts, or the first refusal.
-use Rattle.std.specs.Prelude.{ℕ, List, [], ◌∷◌, Bool, true, false, ◌&&◌, ◌||◌, not, if◌then◌else◌, Option, Some, None, is_none, Result, Ok, Err}
+use Rattle.std.specs.Prelude.{ℕ, List, Bool, true, false, ◌&&◌, ◌||◌, not, if◌then◌else◌, Option, None, is_none, Result, Ok, Err}
 use Rattle.path_name.specs.Given.{◌>>=◌}
-use Rattle.tree_dev.specs.Trees.{FileTree, kind_at, read_at}
+use Rattle.tree_dev.specs.Trees.{FileTree, kind_at}
 use Rattle.tree_dev.specs.Projects.{journal_path}
-use Rattle.tree_dev.specs.declared.limits.TheConstants.{FILE_BYTES}
-use Rattle.tree_dev.specs.declared.limits.LimitKind.TheVariants.{FileBytes}
 use Rattle.tree_dev.specs.declared.entry.Kind.{Kind}
 use Rattle.tree_dev.specs.declared.entry.Kind.TheVariants as kinds
-use Rattle.tree_dev.specs.declared.entry.ReadAnswer.{ReadAnswer}
-use Rattle.tree_dev.specs.declared.entry.ReadAnswer.TheVariants as answers
 use Rattle.table_scan.specs.TableFaults.{tables_of}
 use Rattle.table_scan.specs.declared.types.Tables.{Tables}
 use Rattle.table_scan.specs.declared.types.TableTexts.{TableTexts}
@@ -19,6 +15,7 @@ use Rattle.run_answers.specs.Faults.{refusal_of_table}
 use Rattle.run_answers.specs.declared.refusal.Refusal.{Refusal}
 use Rattle.run_answers.specs.declared.refusal.Refusal.TheVariants as refusals
 use Rattle.composer_top.specs.Places.{table_place}
+use Rattle.composer_top.specs.Outcome.Texts.{text_in}
 
 abbrev pub is_kind_there : Kind → Bool
 is_kind_there kinds.Absent = false
@@ -30,15 +27,9 @@ is_kind_there kinds.Other = true
 unfoldable pub not_pending : FileTree → List (List ℕ) → Result (Unit {0}) Refusal
 not_pending t project = if is_kind_there (kind_at t (journal_path project)) then Err refusals.Pending else Ok tt
 
-abbrev pub text_of : List (List ℕ) → ReadAnswer → Result (Option (List ℕ)) Refusal
-text_of path (answers.Bytes text) = Ok (Some text)
-text_of path answers.Absent = Ok None
-text_of path answers.NotFile = Err (refusals.OtherEntry path)
-text_of path answers.TooLong = Err (refusals.Limit (FileBytes path))
-
 -- the text of a table file, and None where there is no such file
 unfoldable pub table_text_in : FileTree → List (List ℕ) → TableFile → Result (Option (List ℕ)) Refusal
-table_text_in t project table = text_of (table_place project table) (read_at t (table_place project table) FILE_BYTES)
+table_text_in t project table = text_in t (table_place project table)
 
 -- NoTables, where none of the three is there
 abbrev pub some_table : Option (List ℕ) → Option (List ℕ) → Option (List ℕ) → Result (Unit {0}) Refusal

@@ -2,7 +2,7 @@ use Rattle.std.proofs.Common.{map}
 use Rattle.std.specs.String.{string_bytes}
 use Rattle.std.proofs.lemmas.Bool.{eqb-true}
 use Rattle.composer_top.specs.Outcome.{words_refusal}
-use Rattle.composer_top.proofs.Endings.{told_ends, some_answer, Source, source, device_fault, read_as, output_fault, ends_by_words}
+use Rattle.composer_top.proofs.Endings.{told_ends, some_answer, source, device_fault, read_as, output_fault, ends_by_words}
 use Rattle.composer_top.proofs.runner.run.Goals as goal
 use Rattle.composer_top.proofs.runner.run.Goals.{After-conclude}
 
