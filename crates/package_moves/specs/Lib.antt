@@ -1,0 +1,9 @@
+pub mod Wanted
+pub mod Counted
+pub mod Beside
+pub mod Needed
+pub mod Found
+pub mod Known
+pub mod Joined
+pub mod Gathered
+pub mod Moves

@@ -1,0 +1,19 @@
+//! What an install has to change of a project: the parts whose targets do not hold already what they are to hold, and the
+//! entries of `vendor` that are to go.
+#![tactic(auto)]
+
+mod beside;
+mod counts;
+mod joined;
+mod laws;
+mod listing;
+mod needed;
+mod search;
+mod standing;
+mod unneeded;
+
+pub use laws::{jobs_make_the_wanted, parts_are_wanted, written_files_stand_alone};
+pub use search::moves;
+
+#[cfg(test)]
+mod tests;
