@@ -26,7 +26,7 @@ fn placed(alloc: Global, project: &Path, text: &str) -> Result<Placed, Fail> {
     let package = manifest(alloc, text, Role::Member)?.package;
     let at = Path::read(alloc, b"store")?.follow(alloc, package.name.as_slice())?;
     let shown = project
-        .child(alloc, b"vendor")?
+        .follow(alloc, b"vendor")?
         .follow(alloc, package.name.as_slice())?;
     Ok(Placed {
         package,
@@ -178,7 +178,10 @@ fn have_whole_prefixes(rows: &[PrefixRow]) -> bool
 fn is_whole(prefix: &[u8]) -> bool
     ensures { result ≡ is_whole prefix.now }
 {
-    prefix.is_empty() || prefix.ends_with(b"\\")
+    match prefix.len() {
+        0 => true,
+        len => prefix[len - 1] == b'\\',
+    }
 }
 
 fn opens(
@@ -235,12 +238,12 @@ fn classes_are_opened(rt: HostRuntime) -> Result<(), Fail> {
 }
 
 /// A project that lists `tests`, of which a pattern leaves a part out, and another path.
-const LISTING: &str =
+static LISTING: &str =
     "{\"autoload\":{\"classmap\":[\"tests\"],\"exclude-from-classmap\":[\"tests/*/fix\"]}}";
 
-const NOWHERE: &str = "{\"autoload\":{\"classmap\":[\"tests\",\"nowhere\"]}}";
+static NOWHERE: &str = "{\"autoload\":{\"classmap\":[\"tests\",\"nowhere\"]}}";
 
-const TESTS: &[(&str, &str)] = &[
+static TESTS: &[(&str, &str)] = &[
     ("tests/unit/fix/A.php", "<?php class A {}"),
     ("tests/fix/A.php", "<?php class B {}"),
     ("tests/unit/fixture/A.php", "<?php class C {}"),
