@@ -63,10 +63,14 @@ fn digits(alloc: Global, numbers: &[u32]) -> Option<Vec<u8>> {
     Some(told)
 }
 
+fn told_of_plan(alloc: Global, pool: &Pool) -> Option<Vec<u8>> {
+    let answer = solve(alloc, pool).ok()?;
+    told(alloc, &answer)
+}
+
 fn told_of_pool(alloc: Global, texts: &str) -> Option<Vec<u8>> {
     let pool = pool_of(alloc, texts)?;
-    let answer = solve(alloc, &pool).ok()?;
-    told(alloc, &answer)
+    told_of_plan(alloc, &pool)
 }
 
 /// Whether a pool's plan is the one that a row has behind it.
@@ -180,17 +184,15 @@ impl Picks {
     }
 }
 
-/// A pool of a root and five packages.
-fn small_pool(alloc: Global, picks: &mut Picks) -> Option<Pool> {
-    let root = manifest(alloc, picks.of(&ROOTS)?, Role::Root)?;
-    let mut candidates = Vec::new(alloc);
+/// The texts of a root and five packages.
+fn small_pool(alloc: Global, picks: &mut Picks) -> Option<String> {
+    let mut texts = String::new(alloc);
+    texts.push_str(picks.of(&ROOTS)?).ok()?;
     for _ in 0..5 {
-        candidates
-            .push(candidate(alloc, picks.of(&PACKAGES)?)?)
-            .ok()?;
+        texts.push_str("|").ok()?;
+        texts.push_str(picks.of(&PACKAGES)?).ok()?;
     }
-    let candidates = Items::of(candidates);
-    Some(Pool { root, candidates })
+    Some(texts)
 }
 
 fn numbers_of(answer: Answer) -> Option<Vec<u32>> {
@@ -200,12 +202,21 @@ fn numbers_of(answer: Answer) -> Option<Vec<u32>> {
     }
 }
 
-/// Whether the plan of a small pool is that of all its sets, and whether there is one.
-fn agrees(alloc: Global, picks: &mut Picks) -> Option<(bool, bool)> {
-    let pool = small_pool(alloc, picks)?;
-    let wanted = sets::plan_by_sets(alloc, &pool)?;
-    let plan = numbers_of(solve(alloc, &pool).ok()?);
+/// Whether the plan of a pool is that of all its sets, and whether there is one.
+fn is_by_sets(alloc: Global, pool: &Pool) -> Option<(bool, bool)> {
+    let wanted = sets::plan_by_sets(alloc, pool)?;
+    let plan = numbers_of(solve(alloc, pool).ok()?);
     Some((plan == wanted, plan.is_some()))
+}
+
+fn agrees(alloc: Global, texts: &str) -> Option<(bool, bool)> {
+    let pool = pool_of(alloc, texts)?;
+    is_by_sets(alloc, &pool)
+}
+
+fn small_pool_agrees(alloc: Global, picks: &mut Picks) -> Option<(bool, bool)> {
+    let texts = small_pool(alloc, picks)?;
+    agrees(alloc, texts.as_str())
 }
 
 #[test]
@@ -213,7 +224,7 @@ fn small_pools_against_all_sets(rt: HostRuntime) {
     let mut picks = Picks { state: 1 };
     let mut plans: u32 = 0;
     for _ in 0..200 {
-        let agreed = agrees(rt.alloc(), &mut picks);
+        let agreed = small_pool_agrees(rt.alloc(), &mut picks);
         assert!(rt; agreed == Some((true, true)) || agreed == Some((true, false)));
         if agreed == Some((true, true)) {
             plans = plans.saturating_add(1);
@@ -222,81 +233,80 @@ fn small_pools_against_all_sets(rt: HostRuntime) {
     assert!(rt; plans > 0 && plans < 200);
 }
 
-fn pigeon(alloc: Global, number: u32, hole: u32) -> Option<Candidate> {
-    let text = format!(in alloc;
-        "{{\"name\":\"p/p{number}\",\"version\":\"{hole}.0.0\",\"replace\":{{\"h/h{hole}\":\"1.0\"}}}}"
-    ).ok()?;
-    candidate(alloc, text.as_str())
-}
-
-/// The candidates of so many pigeons, each of which takes one of some holes: a name that no two packages can replace.
-fn pigeons(alloc: Global, count: u32, holes: u32) -> Option<Vec<Candidate>> {
-    let mut candidates = Vec::new(alloc);
-    for number in 0..count {
-        for hole in 0..holes {
-            candidates.push(pigeon(alloc, number, hole)?).ok()?;
-        }
-    }
-    Some(candidates)
-}
-
-static SIX_PIGEONS: &str =
-    "{\"require\":{\"p/p0\":\"*\",\"p/p1\":\"*\",\"p/p2\":\"*\",\"p/p3\":\"*\",\"p/p4\":\"*\",\"p/p5\":\"*\"}}";
-
-fn pigeon_plan(alloc: Global, holes: u32) -> Option<Option<Vec<u32>>> {
-    let root = manifest(alloc, SIX_PIGEONS, Role::Root)?;
-    let candidates = Items::of(pigeons(alloc, 6, holes)?);
-    let answer = solve(alloc, &Pool { root, candidates }).ok()?;
-    Some(numbers_of(answer))
-}
-
-#[test]
-fn six_pigeons(rt: HostRuntime) {
-    assert_eq!(rt; pigeon_plan(rt.alloc(), 5), Some(None));
-    let plan = pigeon_plan(rt.alloc(), 6);
-    let wanted = Vec::from_slice(rt.alloc(), &[5u32, 10, 15, 20, 25, 30]).ok();
-    assert_eq!(rt; plan, Some(wanted));
-}
-
-fn link_of_chain(alloc: Global, number: u32) -> Option<Candidate> {
-    let next = number.checked_add(1)?;
-    let text = format!(in alloc;
-        "{{\"name\":\"c/c{number}\",\"version\":\"1.0.0\",\"require\":{{\"c/c{next}\":\"^1.0\"}}}}"
-    ).ok()?;
-    candidate(alloc, text.as_str())
-}
-
-/// A pool in which each package requires the next one.
-fn chain(alloc: Global, count: u32) -> Option<Pool> {
-    let root = manifest(alloc, "{\"require\":{\"c/c0\":\"*\"}}", Role::Root)?;
-    let mut candidates = Vec::new(alloc);
-    for number in 0..count {
-        candidates.push(link_of_chain(alloc, number)?).ok()?;
-    }
-    let last = format!(in alloc; "{{\"name\":\"c/c{count}\",\"version\":\"1.0.0\"}}").ok()?;
-    candidates.push(candidate(alloc, last.as_str())?).ok()?;
-    let candidates = Items::of(candidates);
-    Some(Pool { root, candidates })
-}
-
-/// How many numbers stand in order from 0 on.
-fn ordered(numbers: &[u32]) -> u32 {
+/// How many numbers stand in order, from 0 on and each by a step above the one before.
+fn in_steps(numbers: &[u32], step: u32) -> u32 {
     let mut count: u32 = 0;
     for number in numbers {
-        if *number == count {
+        if *number == count.saturating_mul(step) {
             count = count.saturating_add(1);
         }
     }
     count
 }
 
-fn chain_plan(alloc: Global, count: u32) -> Option<u32> {
-    let pool = chain(alloc, count)?;
-    let plan = numbers_of(solve(alloc, &pool).ok()?)?;
-    Some(ordered(plan.as_slice()))
+/// How many members of the plan stand in steps.
+fn members_in_steps(alloc: Global, pool: &Pool, step: u32) -> Option<u32> {
+    let plan = numbers_of(solve(alloc, pool).ok()?)?;
+    Some(in_steps(plan.as_slice(), step))
+}
+
+fn steps_of_plan(alloc: Global, texts: &str, step: u32) -> Option<u32> {
+    let pool = pool_of(alloc, texts)?;
+    members_in_steps(alloc, &pool, step)
+}
+
+/// So many pigeons, each of which takes one of some holes: a name that no two packages can replace.
+fn pigeons(alloc: Global, count: u32, holes: u32) -> Option<String> {
+    let mut texts = String::new(alloc);
+    texts.push_str(PIGEONS).ok()?;
+    for number in 0..count {
+        for hole in 0..holes {
+            let version = holes.saturating_sub(hole).saturating_add(number);
+            let text = format!(in alloc;
+                "|{{\"name\":\"p/p{number}\",\"version\":\"1.{version}.0\",\"replace\":{{\"h/h{hole}\":\"1.0\"}}}}"
+            ).ok()?;
+            texts.push_str(text.as_str()).ok()?;
+        }
+    }
+    Some(texts)
+}
+
+static PIGEONS: &str =
+    "{\"require\":{\"p/p0\":\"*\",\"p/p1\":\"*\",\"p/p2\":\"*\",\"p/p3\":\"*\",\"p/p4\":\"*\",\"p/p5\":\"*\"}}";
+
+fn pigeons_in_holes(alloc: Global, holes: u32) -> Option<u32> {
+    let texts = pigeons(alloc, 6, holes)?;
+    steps_of_plan(alloc, texts.as_str(), holes.saturating_add(1))
+}
+
+#[test]
+fn six_pigeons(rt: HostRuntime) {
+    assert_eq!(rt; pigeons_in_holes(rt.alloc(), 5), None);
+    assert_eq!(rt; pigeons_in_holes(rt.alloc(), 6), Some(6));
+}
+
+/// Packages of which each requires the next one.
+fn chain(alloc: Global, count: u32) -> Option<String> {
+    let mut texts = String::new(alloc);
+    texts.push_str("{\"require\":{\"c/c1\":\"*\"}}").ok()?;
+    for number in 1..count {
+        let next = number.saturating_add(1);
+        let text = format!(in alloc;
+            "|{{\"name\":\"c/c{number}\",\"version\":\"1.0.0\",\"require\":{{\"c/c{next}\":\"^1.0\"}}}}"
+        ).ok()?;
+        texts.push_str(text.as_str()).ok()?;
+    }
+    let last = format!(in alloc; "|{{\"name\":\"c/c{count}\",\"version\":\"1.0.0\"}}").ok()?;
+    texts.push_str(last.as_str()).ok()?;
+    Some(texts)
+}
+
+fn members_of_chain(alloc: Global, count: u32) -> Option<u32> {
+    let texts = chain(alloc, count)?;
+    steps_of_plan(alloc, texts.as_str(), 1)
 }
 
 #[test]
 fn a_chain(rt: HostRuntime) {
-    assert_eq!(rt; chain_plan(rt.alloc(), 4_095), Some(4_096));
+    assert_eq!(rt; members_of_chain(rt.alloc(), 4_096), Some(4_096));
 }

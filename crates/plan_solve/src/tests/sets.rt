@@ -81,16 +81,14 @@ fn first_unmet<'a>(alloc: Global, pool: &'a Pool, list: &[u32]) -> Option<Option
     Some(first)
 }
 
-/// The list with the preferred alternative of a requirement with which a valid set has it.
-fn next(
-    alloc: Global,
-    pool: &Pool,
-    valid: &[Vec<u32>],
-    list: &[u32],
-    need: &Link,
-) -> Option<Vec<u32>> {
+fn in_order(alloc: Global, pool: &Pool, need: &Link) -> Option<Vec<u32>> {
     let index = Index::of_pool(alloc, pool).ok()?;
-    for number in alternatives(alloc, pool, &index, need).ok()?.as_slice() {
+    alternatives(alloc, pool, &index, need).ok()
+}
+
+/// The list with the preferred alternative of a requirement with which a valid set has it.
+fn next(alloc: Global, valid: &[Vec<u32>], list: &[u32], ordered: &[u32]) -> Option<Vec<u32>> {
+    for number in ordered {
         let mut longer = Vec::from_slice(alloc, list).ok()?;
         longer.push(*number).ok()?;
         if extends(valid, longer.as_slice()) {
@@ -100,8 +98,8 @@ fn next(
     None
 }
 
-/// The plan of first choices, or that no set is valid.
-pub(super) fn plan_by_sets(alloc: Global, pool: &Pool) -> Option<Option<Vec<u32>>> {
+/// The sets of so many candidates.
+fn sets(alloc: Global, pool: &Pool) -> Option<Vec<Vec<u32>>> {
     let mut sets = Vec::new(alloc);
     sets.push(Vec::new(alloc)).ok()?;
     let mut number: u32 = 0;
@@ -109,15 +107,27 @@ pub(super) fn plan_by_sets(alloc: Global, pool: &Pool) -> Option<Option<Vec<u32>
         sets = doubled(alloc, sets, number)?;
         number = number.checked_add(1)?;
     }
+    Some(sets)
+}
+
+/// The choices, where a set is valid.
+fn choices(alloc: Global, pool: &Pool, valid: &[Vec<u32>]) -> Option<Vec<u32>> {
+    let mut list = Vec::new(alloc);
+    for _ in pool.candidates.as_slice() {
+        if let Some(need) = first_unmet(alloc, pool, list.as_slice())? {
+            let ordered = in_order(alloc, pool, need)?;
+            list = next(alloc, valid, list.as_slice(), ordered.as_slice())?;
+        }
+    }
+    Some(list)
+}
+
+/// The plan of first choices, or that no set is valid.
+pub(super) fn plan_by_sets(alloc: Global, pool: &Pool) -> Option<Option<Vec<u32>>> {
+    let sets = sets(alloc, pool)?;
     let valid = valid_sets(alloc, pool, sets.as_slice())?;
     if valid.is_empty() {
         return Some(None);
     }
-    let mut list = Vec::new(alloc);
-    for _ in pool.candidates.as_slice() {
-        if let Some(need) = first_unmet(alloc, pool, list.as_slice())? {
-            list = next(alloc, pool, valid.as_slice(), list.as_slice(), need)?;
-        }
-    }
-    Some(Some(list))
+    Some(Some(choices(alloc, pool, valid.as_slice())?))
 }
