@@ -17,3 +17,4 @@ pub mod Parents
 pub mod KnownSteps
 pub mod JobParts
 pub mod WholeResults
+pub mod Topmost

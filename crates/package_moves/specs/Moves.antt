@@ -1,10 +1,12 @@
 -- The job of an install: of what is wanted what does not stand already, and what is to go.
-use Rattle.std.specs.Prelude.{◌≡◌, ◌⊎◌, ℕ, ◌+◌, List, [], ◌∷◌, ◌++◌, Bool, true, false, Result}
+use Rattle.std.specs.Prelude.{◌≡◌, ◌⊎◌, ℕ, ◌+◌, List, [], ◌∷◌, ◌++◌, Bool, true, false, Result, is_some, Some}
 use Rattle.path_name.specs.Given.{◌>>=◌}
 use Rattle.tree_dev.specs.Trees.{FileTree, entry_at}
 use Rattle.tree_dev.specs.Changes.{is_leaf}
-use Rattle.tree_dev.specs.Projects.{vendor_path}
+use Rattle.path_name.specs.Paths.{without_last}
+use Rattle.tree_dev.specs.Projects.{is_within, vendor_path}
 use Rattle.stage_job.specs.Checked.{job_checked}
+use Rattle.stage_job.specs.Jobs.{AreApart}
 use Rattle.stage_job.specs.declared.fault.StageFault.{StageFault}
 use Rattle.stage_job.specs.declared.job.Part.{Part}
 use Rattle.package_moves.specs.Counted.{counted_off, targets_count}
@@ -52,3 +54,12 @@ IsAmong (first ∷ parts) part = (first ≡ part) ⊎ IsAmong parts part
 pub record HasFolders (project : List (List ℕ)) (t : FileTree) (wanted : List Part) : Type 0 where
   pub vendor : is_leaf (entry_at t (vendor_path project)) ≡ false
   pub names : (path : List (List ℕ)) → is_in_way project t wanted path ≡ false
+
+-- An entry of `vendor` that is to go: no target is at, above or below it, and the folder that it stands in is `vendor`, or one
+-- in it in which targets stand.
+pub record IsTopmost (project : List (List ℕ)) (t : FileTree) (wanted : List Part) (path : List (List ℕ)) : Type 0 where
+  pub there : is_some (entry_at t (project ++ path)) ≡ true
+  pub apart : (part : Part) → IsAmong wanted part → AreApart path part.target
+  pub folder : List (List ℕ)
+  pub above : without_last path ≡ Some folder
+  pub needed : (folder ≡ vendor_name) ⊎ ((is_within vendor_name folder ≡ true) × ((needs_of wanted).is_above folder ≡ true))

@@ -7,7 +7,8 @@ ghost use Rattle.tree_dev.specs.declared.entry.Entry.TheVariants as entries;
 ghost use Rattle.stage_job.specs.Jobs.{AreParts, is_gone, job_result};
 ghost use Rattle.stage_job.specs.declared.job.Part.{Part as Parts};
 ghost use Rattle.stage_job.specs.declared.job.Source.TheVariants as sources;
-ghost use Rattle.package_moves.specs.Moves.{HasFolders, IsAmong, IsJobFor};
+ghost use Rattle.package_moves.specs.Moves.{HasFolders, IsAmong, IsJobFor, IsTopmost};
+ghost use Rattle.package_moves.specs.Needed.{gone_part, gone_parts};
 ghost use Rattle.package_moves.specs.Wanted.{AreWanted, Stands, without_vendor};
 
 /// A job's result over the old project is that of what is wanted, and no other file is left in `vendor`.
@@ -28,4 +29,10 @@ pub fn written_files_stand_alone()
     ensures { (project : List (List ℕ)) (t : FileTree) (wanted parts : List Parts) (part : Parts) (bytes found : List ℕ) → IsTree t → AreWanted wanted
         → IsJobFor project t wanted parts → IsAmong wanted part → part.from ≡ sources.Bytes bytes
         → entry_at t (project ++ part.target) ≡ Some (entries.File found) → found ≢ bytes → IsAmong parts part }
+{}
+
+/// A job of parts takes away exactly the topmost entries of `vendor` that no target needs.
+pub fn gone_parts_are_topmost()
+    ensures { (project : List (List ℕ)) (t : FileTree) (wanted : List Parts) (path : List (List ℕ)) → IsTree t → AreWanted wanted
+        → (IsAmong (gone_parts project t wanted) (gone_part path) → IsTopmost project t wanted path) × (IsTopmost project t wanted path → IsAmong (gone_parts project t wanted) (gone_part path)) }
 {}

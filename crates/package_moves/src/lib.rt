@@ -12,7 +12,9 @@ mod search;
 mod standing;
 mod unneeded;
 
-pub use laws::{jobs_make_the_wanted, parts_are_wanted, written_files_stand_alone};
+pub use laws::{
+    gone_parts_are_topmost, jobs_make_the_wanted, parts_are_wanted, written_files_stand_alone,
+};
 pub use search::moves;
 
 #[cfg(test)]
