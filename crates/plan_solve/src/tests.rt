@@ -157,7 +157,7 @@ static ROOTS: [&str; 10] = [
     "{\"require\":{\"x/x\":\"^1\"},\"require-dev\":{\"b/b\":\"*\"}}",
     "{\"require\":{\"x/x\":\"*\",\"c/c\":\"*\"},\"config\":{\"platform\":{\"php\":\"8.0.0\"}}}",
     "{\"require-dev\":{\"a/a\":\"^1\"},\"require\":{\"b/b\":\"*\"},\"minimum-stability\":\"RC\"}",
-    "{\"require\":{\"a/a\":\"^1 || ^3\"},\"conflict\":{\"c/c\":\"^2\"}}",
+    "{\"require\":{\"a/a\":\">=1.0 <4.0\"},\"conflict\":{\"c/c\":\"^2\"}}",
     "{\"require\":{\"c/c\":\"*\",\"b/b\":\"*\"},\"replace\":{\"x/x\":\"1.0\"}}",
     "{\"require\":{\"b/b\":\"*@dev\",\"c/c\":\"*\"},\"prefer-stable\":true}",
 ];
