@@ -60,6 +60,9 @@ changes = {
     'another repository': "d['repositories'].append({'type': 'path', 'url': 'more/*'})",
     'something provided': "d['provide'] = {'acme/cache': '1.0'}",
 }
+# `composer validate` does not look at stabilities, nor at what packages require: here the lock's package of a lower stability
+# is no longer asked for.
+told_here = {'nothing for development'}
 bad = 0
 for name, code in changes.items():
     space = {'d': copy.deepcopy(root)}
@@ -68,9 +71,9 @@ for name, code in changes.items():
     theirs = subprocess.run(['composer', 'validate', '--no-check-publish', '--no-interaction', '--no-plugins'], capture_output=True, text=True)
     text = theirs.stdout + theirs.stderr
     wanted = ['hash stale' if 'not up to date' in text else 'hash current',
-              'breaks' if 'is not present in the lock file' in text or 'does not satisfy your constraint' in text else 'meets']
+              'breaks' if name in told_here or 'is not present in the lock file' in text or 'does not satisfy your constraint' in text else 'meets']
     ours = subprocess.run([program, 'check'], capture_output=True, text=True)
-    given = [line.split(' unmet')[0] for line in ours.stdout.splitlines()]
+    given = [line.split(' unmet')[0].split(' not allowed')[0] for line in ours.stdout.splitlines()]
     if given != wanted or ours.returncode != (1 if wanted[1] == 'breaks' else 0):
         bad += 1
         print('%s: %s, and Composer %s' % (name, ours.stdout.splitlines() + [ours.stderr], wanted))
