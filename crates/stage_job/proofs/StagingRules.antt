@@ -1,15 +1,15 @@
 -- What goes on staging: calls that only read, changes of one entry at or below `.install`, folders made below `vendor`, and
 -- barriers.
-use Rattle.std.proofs.Common.{◌≡◌, ◌⊎◌, ℕ, ◌≤◌, Bool, true, false, cond, List, [], ◌∷◌, Option, Some, None, refl, sym, ap, ◌∙◌, subst, inl, inr, arith}
+use Rattle.std.proofs.Common.{◌≡◌, ◌⊎◌, ℕ, ◌≤◌, Bool, true, false, cond, List, [], ◌∷◌, Option, Some, None, refl, sym, ap, ◌∙◌, subst, inl, inr, arith, append-nil}
 use Rattle.std.specs.Prelude.{IsTrue, is_none, is_some}
 use Rattle.std.specs.Option.{option_map}
 use Rattle.std.specs.FinMap as map
 use Rattle.path_name.specs.Paths.{without_last}
 use Rattle.tree_dev.specs.Trees.{FileTree, entry_at, has_folder}
-use Rattle.tree_dev.specs.Changes.{changed, has_place}
+use Rattle.tree_dev.specs.Changes.{IsTorn, changed, has_place}
 use Rattle.tree_dev.specs.Disk.{IsOnDisk}
-use Rattle.tree_dev.specs.Device.{MayAdd, MaySettle, Meaning, OnlyRead, Rose}
-use Rattle.tree_dev.specs.Projects.{is_within, vendor_path}
+use Rattle.tree_dev.specs.Device.{MayAdd, MaySettle, Meaning, OfTold, OnlyRead, Rose}
+use Rattle.tree_dev.specs.Projects.{is_within, vendor_path, work_path}
 use Rattle.tree_dev.specs.Steady.{IsStaged}
 use Rattle.tree_dev.specs.Told.{both}
 use Rattle.tree_dev.specs.declared.change.Change.{Change}
@@ -19,7 +19,7 @@ use Rattle.tree_dev.specs.declared.entry.Entry.TheVariants as entries
 use Rattle.tree_dev.proofs.Changed.{get-changed}
 use Rattle.tree_dev.proofs.SamePaths.{is_same, same_path}
 use Rattle.tree_dev.proofs.SteadyRules.{IsQuiet, IsQuietHowever, quiet_made, quiet_written, steady_on, steady_same, steady_settled, steady_start, steady_then_make_parent, steady_then_quiet}
-use Rattle.stage_job.specs.Staged.{IsKept, IsNewFolder, KeepsTelling, Staging}
+use Rattle.stage_job.specs.Staged.{IsFree, IsKept, IsNewFolder, KeepsTelling, Staging}
 
 -- ---- what is kept
 
@@ -27,10 +27,10 @@ no_some : {x : Entry} → ◌≡◌ {A = Option Entry} (Some x) None → ⊥
 no_some e = cc
 
 pub kept_itself : (project : List (List ℕ)) (t : FileTree) → IsKept project t t
-kept_itself project t = record { each = λ path out. inl refl }
+kept_itself project t = record { each = λ path out. inl refl; claim = λ stands. stands }
 
 pub kept_on : (project : List (List ℕ)) (t u v : FileTree) → IsKept project t u → IsKept project u v → IsKept project t v
-kept_on project t u v first second = record { each = λ path out. by path (first.each path out) (second.each path out) }
+kept_on project t u v first second = record { each = λ path out. by path (first.each path out) (second.each path out); claim = λ stands. second.claim (first.claim stands) }
   where
     by : (path : List (List ℕ)) → (map.get u path ≡ map.get t path) ⊎ IsNewFolder project t u path → (map.get v path ≡ map.get u path) ⊎ IsNewFolder project u v path
         → (map.get v path ≡ map.get t path) ⊎ IsNewFolder project t v path
@@ -76,6 +76,38 @@ was_free t at place = none_there at (both (has_folder t (without_last at)) (is_n
     none_there [] free = absurd cc
     none_there (segment ∷ rest) free = none_is (map.get t (segment ∷ rest)) free
 
+-- a folder that stands stays one where a folder is made
+folder_then_made : (t : FileTree) (at q : List (List ℕ)) → map.get t q ≡ Some entries.Folder → map.get (changed t (changes.FolderMade at)) q ≡ Some entries.Folder
+folder_then_made t at q stands = get-changed t (changes.FolderMade at) q ∙ by (is_same q at)
+  where
+    by : (same : Bool) → cond same (Some entries.Folder) (map.get t q) ≡ Some entries.Folder
+    by true = refl
+    by false = stands
+
+-- and where a file is made at a path at which nothing is
+folder_then_written : (t : FileTree) (at q : List (List ℕ)) (bytes : List ℕ) → map.get t at ≡ None → map.get t q ≡ Some entries.Folder
+    → map.get (changed t (changes.Written at bytes)) q ≡ Some entries.Folder
+folder_then_written t at q bytes none stands = get-changed t (changes.Written at bytes) q ∙ by (is_same q at) refl
+  where
+    by : (same : Bool) → is_same q at ≡ same → cond same (Some (entries.File bytes)) (map.get t q) ≡ Some entries.Folder
+    by true e = absurd (no_some (sym stands ∙ ap (map.get t) (same_path q at e) ∙ none))
+    by false e = stands
+
+-- `.install` stays a folder over a change of the tree that is told, however it is torn
+abbrev KeepsClaim : List (List ℕ) → Meaning → Change → Type 0
+KeepsClaim project b change = (t : FileTree) (torn : Change) → b.told ≡ Some t → IsTorn change torn → map.get t (work_path project) ≡ Some entries.Folder
+    → map.get (changed t torn) (work_path project) ≡ Some entries.Folder
+
+made_keeps_claim : (project : List (List ℕ)) (b : Meaning) (at : List (List ℕ)) → KeepsClaim project b (changes.FolderMade at)
+made_keeps_claim project b at = λ t torn tells is stands.
+    subst (λ (change : Change). map.get (changed t change) (work_path project) ≡ Some entries.Folder) (sym is) (folder_then_made t at (work_path project) stands)
+
+written_keeps_claim : (project : List (List ℕ)) (b : Meaning) (at : List (List ℕ)) (bytes : List ℕ) → ((t : FileTree) → b.told ≡ Some t → map.get t at ≡ None)
+    → KeepsClaim project b (changes.Written at bytes)
+written_keeps_claim project b at bytes free = λ t torn tells is stands.
+    subst (λ (change : Change). map.get (changed t change) (work_path project) ≡ Some entries.Folder) (sym is.1)
+    (folder_then_written t at (work_path project) is.0 (free t tells) stands)
+
 module _ {project : List (List ℕ)} {b d : Meaning} {failed : Bool} (cause : IsTrue failed → Rose b.faults d.faults) where
   staging_same : d.told ≡ b.told → b.faults ≤ d.faults → d.disks ≡ b.disks → Staging project b d failed
   staging_same told faults disks = record {
@@ -84,23 +116,30 @@ module _ {project : List (List ℕ)} {b d : Meaning} {failed : Bool} (cause : Is
     cause = cause;
   }
 
-  staging_quiet : (change : Change) → IsQuietHowever project change → MayAdd b d change → Staging project b d failed
-  staging_quiet change quiet (inl stays) = staging_same stays.told stays.faults stays.disks
-  staging_quiet change quiet (inr adds) = record {
+  staging_quiet : (change : Change) → IsQuietHowever project change → KeepsClaim project b change → MayAdd b d change → Staging project b d failed
+  staging_quiet change quiet claim (inl stays) = staging_same stays.told stays.faults stays.disks
+  staging_quiet change quiet claim (inr adds) = record {
     steady = steady_then_quiet project b b d change quiet (inr adds) (steady_start project b);
     kept = λ t tells. (
       changed t adds.torn,
       adds.adds.told ∙ ap (option_map (λ (u : FileTree). changed u adds.torn)) tells,
-      record { each = λ q out. inl (get-changed t adds.torn q ∙ (quiet adds.torn adds.is_torn).outside t q out) },
+      record {
+        each = λ q out. inl (get-changed t adds.torn q ∙ (quiet adds.torn adds.is_torn).outside t q out);
+        claim = claim t adds.torn tells adds.is_torn;
+      },
     );
     cause = cause;
   }
 
-  pub staging_write : {at : List (List ℕ)} {bytes : List ℕ} → IsStaged project at → MayAdd b d (changes.Written at bytes) → Staging project b d failed
-  staging_write {at} {bytes} staged adds = staging_quiet (changes.Written at bytes) (λ torn is. subst (IsQuiet project) (sym is.1) (quiet_written project at staged is.0)) adds
+  pub staging_write : {at : List (List ℕ)} {bytes : List ℕ} → IsStaged project at → ((t : FileTree) → b.told ≡ Some t → map.get t at ≡ None)
+      → MayAdd b d (changes.Written at bytes) → Staging project b d failed
+  staging_write {at} {bytes} staged free adds =
+      staging_quiet (changes.Written at bytes) (λ torn is. subst (IsQuiet project) (sym is.1) (quiet_written project at staged is.0))
+      (written_keeps_claim project b at bytes free) adds
 
   pub staging_make : {at : List (List ℕ)} → IsStaged project at → MayAdd b d (changes.FolderMade at) → Staging project b d failed
-  staging_make {at} staged adds = staging_quiet (changes.FolderMade at) (λ torn is. subst (IsQuiet project) (sym is) (quiet_made project at staged)) adds
+  staging_make {at} staged adds =
+      staging_quiet (changes.FolderMade at) (λ torn is. subst (IsQuiet project) (sym is) (quiet_made project at staged)) (made_keeps_claim project b at) adds
 
   pub staging_barrier : MaySettle b d → Staging project b d failed
   staging_barrier (inl stays) = staging_same stays.told stays.faults stays.disks
@@ -118,7 +157,7 @@ module _ {project : List (List ℕ)} {b d : Meaning} {failed : Bool} (cause : Is
     kept = λ t tells. (
       changed t adds.torn,
       adds.adds.told ∙ ap (option_map (λ (u : FileTree). changed u adds.torn)) tells,
-      record { each = λ q out. made t tells q (is_same q at) refl },
+      record { each = λ q out. made t tells q (is_same q at) refl; claim = made_keeps_claim project b at t adds.torn tells adds.is_torn },
     );
     cause = cause;
   }
@@ -140,6 +179,10 @@ module _ {project : List (List ℕ)} {b d : Meaning} {failed : Bool} (cause : Is
 
 pub staging_read : {project : List (List ℕ)} {b d : Meaning} {failed : Bool} → OnlyRead b d failed → Staging project b d failed
 staging_read read = staging_same read.cause read.told read.faults read.disks
+
+-- nothing is at a path that is free
+pub nothing_at : (at : List (List ℕ)) (m : Meaning) → OfTold m (IsFree at) → (t : FileTree) → m.told ≡ Some t → map.get t at ≡ None
+nothing_at at m free t told = subst (λ (p : List (List ℕ)). map.get t p ≡ None) (append-nil at) ((free t told).none [])
 
 -- a call that came through
 pub fine : {P : Type 0} → IsTrue false → P

@@ -39,8 +39,10 @@ pub record IsNewFolder (project : List (List ℕ)) (t u : FileTree) (path : List
   pub now : map.get u path ≡ Some entries.Folder
 
 -- Outside of `.install` each entry is as it was, but for folders that were made at or below `vendor`. So each file is as it was.
+-- `.install` is a folder where it was one.
 pub record IsKept (project : List (List ℕ)) (t u : FileTree) : Type 0 where
   pub each : (path : List (List ℕ)) → is_within (work_path project) path ≡ false → (map.get u path ≡ map.get t path) ⊎ IsNewFolder project t u path
+  pub claim : map.get t (work_path project) ≡ Some entries.Folder → map.get u (work_path project) ≡ Some entries.Folder
 
 -- A tree is told afterwards exactly where one was told before.
 abbrev pub KeepsTelling : Meaning → Meaning → Type 0
@@ -48,7 +50,7 @@ KeepsTelling before now = is_some now.told ≡ is_some before.told
 
 -- Calls that only stage: whatever a crash may leave at any moment between has the one project and the one surroundings that
 -- each image had before, and no journal; outside of `.install` nothing changed in the tree that is told, but folders below
--- `vendor`. Where the last call failed, the count of faults rose.
+-- `vendor`, and `.install` is still a folder. Where the last call failed, the count of faults rose.
 pub record Staging (project : List (List ℕ)) (before now : Meaning) (failed : Bool) : Type 0 where
   pub steady : Steady project before now
   pub kept : OfTold before (λ t. (u : FileTree) × (now.told ≡ Some u) × IsKept project t u)
