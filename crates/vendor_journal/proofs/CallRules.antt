@@ -23,7 +23,7 @@ still_told : (t : Option FileTree) (change : Change) → is_some (option_map (λ
 still_told None change = refl
 still_told (Some u) change = refl
 
-change_tells : (b d : Meaning) (change : Change) → MayAdd b d change → is_some d.told ≡ is_some b.told
+pub change_tells : (b d : Meaning) (change : Change) → MayAdd b d change → is_some d.told ≡ is_some b.told
 change_tells b d change (inl stays) = ap is_some stays.told
 change_tells b d change (inr adds) = ap is_some adds.adds.told ∙ still_told b.told adds.torn
 

@@ -60,6 +60,19 @@ new_was_free t (x ∷ xs) made is new = by (map.get t (x ∷ xs)) refl (sym is �
         let exists = ap (λ o. cond (is_some o) mades.Exists (cond (has_place t (changes.FolderMade (x ∷ xs))) mades.New mades.Misplaced)) e in
         absurd cc
 
+-- a folder that is made stands below one
+pub new_is_below : (t : FileTree) (at : List (List ℕ)) (made : Made) → made ≡ made_folder t at → made ≡ mades.New → is_root at ≡ false
+    → has_folder t (without_last at) ≡ true
+unfolding made_folder has_place
+new_is_below t [] made is new under = absurd cc
+new_is_below t (x ∷ xs) made is new under =
+    above (is_some (map.get t (x ∷ xs))) (has_folder t (without_last (x ∷ xs))) (is_none (map.get t (x ∷ xs))) (sym is ∙ new)
+  where
+    above : (some folder none : Bool) → cond some mades.Exists (cond (folder && none) mades.New mades.Misplaced) ≡ mades.New → folder ≡ true
+    above true folder none e = absurd cc
+    above false true none e = refl
+    above false false none e = absurd cc
+
 none_not : (o : Option Entry) → is_none o ≡ not (is_some o)
 none_not None = refl
 none_not (Some entry) = refl

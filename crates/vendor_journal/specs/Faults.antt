@@ -29,9 +29,10 @@ is_vanished (Ok x) = false
 is_vanished (Err commit_faults.DeviceFault) = false
 is_vanished (Err (commit_faults.Vanished place)) = true
 
+-- an entry vanished, or a claim is refused for what stands at its place
 abbrev pub is_lost : {X : Type 0} → Result X ClaimFault → Bool
 is_lost (Ok x) = false
-is_lost (Err faults.Unfinished) = false
+is_lost (Err faults.Unfinished) = true
 is_lost (Err (faults.Vanished at)) = true
 is_lost (Err faults.DeviceFault) = false
 is_lost (Err faults.OutOfMemory) = false

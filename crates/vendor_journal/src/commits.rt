@@ -1,14 +1,16 @@
 //! The commit of an install: its journal, and then its parts.
 
-ghost use Rattle.std.specs.Prelude.{◌≡◌, ℕ, List, false, None, IfOk, OnOk, is_err};
+ghost use Rattle.std.specs.Prelude.{◌≡◌, ℕ, List, false, None, Some, IfOk, OnOk, is_err};
 ghost use Rattle.std.specs.FinMap as map;
 ghost use Rattle.tree_dev.specs.Trees.{FileTree, IsTree};
 ghost use Rattle.tree_dev.specs.Device.{OfTold};
 ghost use Rattle.tree_dev.specs.Disk.{reading};
 ghost use Rattle.tree_dev.specs.Changes.{changed};
 ghost use Rattle.tree_dev.specs.Steady.{EachImage, IsWhole, Steady, Through};
+ghost use Rattle.tree_dev.specs.Projects.{work_path};
 ghost use Rattle.tree_dev.specs.declared.change.Change.TheVariants as changes;
 ghost use Rattle.tree_dev.specs.declared.did.Did.TheVariants as dids;
+ghost use Rattle.tree_dev.specs.declared.entry.Entry.TheVariants as entries;
 ghost use Rattle.install_world.specs.InFlight.{AreAllDone, Files, IsInFlight, IsPart, IsPartDone, draft_path};
 ghost use Rattle.install_world.specs.Moving.{ChangesPlaces, IsOnWay, Way};
 ghost use Rattle.install_world.specs.Recovery.{IsNewProject};
@@ -140,6 +142,8 @@ fn finish<T: Tree>(tree: &mut T, prepared: &Prepared) -> Result<(), CommitFault>
         → Through (T.meaning tree.old) (T.meaning tree.new) (IsInFlight way.project way.surroundings way.old way.new)) }
     ensures finished { OnOk result (OfTold (T.meaning tree.old) (λ t. IsWhole (T.meaning tree.old).disks.now → (way : Way) → IsPrepared way.project way.journal prepared.now
         → EachImage (T.meaning tree.old) (IsOnWay way) → EachImage (T.meaning tree.new) (IsNewProject way))) }
+    ensures work { OnOk result (OfTold (T.meaning tree.old) (λ t. IsWhole (T.meaning tree.old).disks.now → (way : Way) → IsPrepared way.project way.journal prepared.now
+        → EachImage (T.meaning tree.old) (IsOnWay way) → OfTold (T.meaning tree.new) (λ u. map.get u (work_path way.project) ≡ Some entries.Folder))) }
     ensures never_vanished { OfTold (T.meaning tree.old) (λ t. IsWhole (T.meaning tree.old).disks.now → (way : Way) → IsPrepared way.project way.journal prepared.now
         → EachImage (T.meaning tree.old) (IsOnWay way) → HasRoomFrom way.project 0 (reading (T.meaning tree.old).disks.now) → is_vanished result ≡ false) }
 {
@@ -162,6 +166,9 @@ pub fn commit<T: Tree>(tree: &mut T, _hold: &Hold, prepared: &Prepared) -> Resul
         → Through (T.meaning tree.old) (T.meaning tree.new) (IsInFlight way.project way.surroundings way.old way.new)) }
     ensures committed { OnOk result (OfTold (T.meaning tree.old) (λ t. (way : Way) (puts : ℕ → Files) → IsReady way puts prepared.now t
         → EachImage (T.meaning tree.new) (IsNewProject way))) }
+    // What a release then takes away is a folder.
+    ensures work { OnOk result (OfTold (T.meaning tree.old) (λ t. (way : Way) (puts : ℕ → Files) → IsReady way puts prepared.now t
+        → OfTold (T.meaning tree.new) (λ u. map.get u (work_path way.project) ≡ Some entries.Folder))) }
     // Over a tree that tells it is only a device that fails that keeps the commit from its end.
     ensures never_vanished { OfTold (T.meaning tree.old) (λ t. (way : Way) (puts : ℕ → Files) → IsReady way puts prepared.now t
         → EachImage (T.meaning tree.old) (λ left. left ≡ t) → is_vanished result ≡ false) }

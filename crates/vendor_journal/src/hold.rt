@@ -1,6 +1,6 @@
 //! The claim on a project.
 
-ghost use Rattle.std.specs.Prelude.{◌≡◌, ℕ, List, IfOk, OnOk, Err, None, Some, IsTrue, false};
+ghost use Rattle.std.specs.Prelude.{◌≡◌, ℕ, List, IfOk, OnOk, Err, None, Some, IsTrue, true, false};
 ghost use Rattle.std.specs.FinMap as map;
 ghost use Rattle.path_name.specs.Paths.{without_last};
 ghost use Rattle.tree_dev.specs.Trees.{has_folder};
@@ -11,6 +11,7 @@ ghost use Rattle.tree_dev.specs.declared.change.Change.TheVariants as changes;
 ghost use Rattle.install_world.specs.InFlight.{IsThere};
 ghost use Rattle.install_world.specs.Removals.{Removes, WritesNone};
 ghost use Rattle.tree_dev.specs.declared.entry.Entry.TheVariants as entries;
+ghost use Rattle.stage_job.specs.Staged.{KeepsTelling};
 ghost use Rattle.vendor_journal.specs.Faults.{is_device_fault, is_lost};
 ghost use Rattle.vendor_journal.specs.declared.hold_fault.ClaimFault.TheVariants as faults;
 
@@ -34,6 +35,8 @@ pub fn claim<T: Tree>(alloc: Global, tree: &mut T, project: &Path) -> Result<Hol
     ensures held { IfOk result (λ hold. hold.project ≡ project.now) }
     ensures claimed { OnOk result (OfTold (T.meaning tree.old) (λ t. (map.get t (work_path project.now) ≡ None)
         × Adds (T.meaning tree.old) (T.meaning tree.new) (changes.FolderMade (work_path project.now)))) }
+    ensures above { OnOk result (OfTold (T.meaning tree.old) (λ t. has_folder t (without_last (work_path project.now)) ≡ true)) }
+    ensures tells { KeepsTelling (T.meaning tree.old) (T.meaning tree.new) }
     ensures unfinished { result ≡ Err faults.Unfinished → Stays (T.meaning tree.old) (T.meaning tree.new)
         × OfTold (T.meaning tree.old) (λ t. IsThere t (work_path project.now)) }
     ensures vanished { (path : List (List ℕ)) → result ≡ Err (faults.Vanished path) → (path ≡ work_path project.now) × (Stays (T.meaning tree.old) (T.meaning tree.new)
@@ -51,7 +54,7 @@ pub fn claim<T: Tree>(alloc: Global, tree: &mut T, project: &Path) -> Result<Hol
 }
 
 /// Releases a claim: removes `.install` with all that is in it. `Vanished(path)`: an entry in it changed under way; over a tree
-/// that tells, in which `.install` is a folder, that never comes. Whatever happens, the project and its surroundings stay.
+/// that tells, in which `.install` is a folder, that never comes, nor does `Unfinished`. Whatever happens, the project and its surroundings stay.
 pub fn release<T: Tree>(alloc: Global, tree: &mut T, hold: Hold) -> Result<(), ClaimFault>
     ensures writes_none { WritesNone (T.meaning tree.old) (T.meaning tree.new) (is_device_fault result) }
     ensures removes { Removes (work_path hold.project) (T.meaning tree.old) (T.meaning tree.new) }

@@ -44,3 +44,11 @@ returns-in-Misplaced-clause-never_vanished g c = λ t told way puts ready each.
     let done = c.in_ok-place_journal.ensures.fits t told way puts ready in
     let misplaced = c.in-Misplaced.is in
     absurd cc
+
+pub returns-in-Done-clause-work : goal.returns-in-Done-clause-work
+returns-in-Done-clause-work g c = on_ok_weaker c.finish.result
+    (λ work t told way puts ready.
+    let now = told_still (g.T.Tree.meaning c.args.tree.now) (g.T.Tree.meaning c.place_journal.new.tree) t c.in_ok-place_journal.ensures.calls.tells told in
+    let placed = c.in_ok-place_journal.ensures.placed c.in-Done.is t told way puts ready in
+    work now.0 now.1 placed.0 way ready.made_ready placed.1)
+    c.finish.ensures.work

@@ -1,5 +1,6 @@
-use Rattle.std.proofs.Common.{sym, subst}
+use Rattle.std.proofs.Common.{refl, sym, subst, ◌∙◌}
 use Rattle.std.proofs.lemmas.Result.{err_from_is_err_and}
+use Rattle.tree_dev.specs.Projects.{work_path}
 use Rattle.tree_dev.proofs.Stretches.{through_ends}
 use Rattle.install_world.specs.InFlight.{AreAllDone}
 use Rattle.install_world.specs.Moving.{IsOnWay}
@@ -7,8 +8,8 @@ use Rattle.install_world.proofs.JournalEnds.{nothing_more, way_then}
 use Rattle.install_world.proofs.PartDone.{told_still}
 use Rattle.install_world.proofs.PartFinish.{way_reads}
 use Rattle.install_world.proofs.RemovalRules.{writes_none_on}
+use Rattle.install_world.proofs.RoomMade.{work_not_journal, work_stands}
 use Rattle.vendor_journal.specs.Prepared.{ArePrepared}
-use Rattle.std.proofs.Common.{refl}
 use Rattle.vendor_journal.proofs.commits.finish.Goals as goal
 
 pub returns-in_err-move_parts-clause-writes_none : goal.returns-in_err-move_parts-clause-writes_none
@@ -97,3 +98,14 @@ returns-in-Misplaced-clause-never_vanished g c = λ t told whole way is each roo
     let done = c.in_ok-remove_journal.ensures.fits now.0 now.1 way is.at_is on.stands in
     let misplaced = c.in-Misplaced.is in
     absurd cc
+
+pub returns-in-Done-clause-work : goal.returns-in-Done-clause-work
+returns-in-Done-clause-work g c = λ t told whole way is each u after.
+    let first = g.T.Tree.meaning c.args.tree.now in
+    let second = g.T.Tree.meaning c.move_parts.new.tree in
+    let parts = subst (ArePrepared way.project way.journal.targets) (sym c.as_slice.ensures.value) is.parts_are in
+    let now = told_still first second t c.move_parts.ensures.writes_none.tells told in
+    let disk = g.met.T.Tree.tells_its_disk c.move_parts.new.tree now.0 now.1 in
+    let on = way_reads way second now.0 disk (through_ends (IsOnWay way) first second (c.move_parts.ensures.through t told whole way parts each)) in
+    c.in_ok-remove_journal.ensures.others c.in-Done.is now.0 now.1 u after (work_path way.project) (λ e. work_not_journal way.project (e ∙ is.at_is))
+    ∙ work_stands way now.0 (g.met.T.Tree.tells_trees c.move_parts.new.tree now.0 now.1) on

@@ -1,4 +1,4 @@
-use Rattle.std.proofs.Common.{◌≡◌, None, false, ◌∙◌, ap, sym, subst}
+use Rattle.std.proofs.Common.{◌≡◌, None, true, false, ◌∙◌, ap, sym, subst}
 use Rattle.std.specs.FinMap as map
 use Rattle.path_name.specs.Paths.{without_last}
 use Rattle.tree_dev.specs.Trees.{has_folder}
@@ -10,7 +10,8 @@ use Rattle.tree_dev.proofs.SteadyRules.{steady_start, steady_then_make}
 use Rattle.install_world.specs.InFlight.{IsThere}
 use Rattle.install_world.proofs.RecoveryRules.{work_under}
 use Rattle.install_world.proofs.Segments.{install_segment}
-use Rattle.vendor_journal.proofs.HoldRules.{exists_there, no_folder_above, new_was_free, work_staged}
+use Rattle.vendor_journal.proofs.CallRules.{change_tells}
+use Rattle.vendor_journal.proofs.HoldRules.{exists_there, new_is_below, no_folder_above, new_was_free, work_staged}
 use Rattle.vendor_journal.proofs.hold.claim.Goals as goal
 
 pub child-requires : goal.child-requires
@@ -70,3 +71,21 @@ returns-in-Misplaced-clause-vanished g c = λ path is. (
         (ap is_root c.in_ok-work.ensures ∙ work_under c.args.project.now)).1,
   ),
 )
+
+pub returns-in-New-clause-above : goal.returns-in-New-clause-above
+returns-in-New-clause-above g c = λ t told.
+    subst (λ at. has_folder t (without_last at) ≡ true) c.in_ok-work.ensures
+    (new_is_below t c.in_ok-work.work c.in_ok-make_dir.field-0 (c.in_ok-make_dir.ensures.answer t told) c.in-New.is
+    (ap is_root c.in_ok-work.ensures ∙ work_under c.args.project.now))
+
+pub returns-in_err-make_dir-clause-tells : goal.returns-in_err-make_dir-clause-tells
+returns-in_err-make_dir-clause-tells g c = change_tells _ _ _ c.make_dir.ensures.moments
+
+pub returns-in-New-clause-tells : goal.returns-in-New-clause-tells
+returns-in-New-clause-tells g c = change_tells _ _ _ c.make_dir.ensures.moments
+
+pub returns-in-Exists-clause-tells : goal.returns-in-Exists-clause-tells
+returns-in-Exists-clause-tells g c = change_tells _ _ _ c.make_dir.ensures.moments
+
+pub returns-in-Misplaced-clause-tells : goal.returns-in-Misplaced-clause-tells
+returns-in-Misplaced-clause-tells g c = change_tells _ _ _ c.make_dir.ensures.moments
