@@ -20,7 +20,8 @@ use Rattle.class_lookup.specs.ClassNames.{class_name_of}
 use Rattle.composer_words.specs.Words.{command_of}
 use Rattle.composer_top.specs.Chosen.{or_refused}
 use Rattle.composer_top.specs.Outcome.Lookup as looking
-use Rattle.composer_top.specs.Outcome.{Tells, KeepsToWords, Outputs, Concluded, Ends, EndsByWords, EndsWithAnswer, IsFinding, reply_to, refusal_in, task_refusal, refusal_of_choice, words_refusal}
+use Rattle.run_answers.specs.Steps.{Tells}
+use Rattle.composer_top.specs.Outcome.{KeepsToWords, Outputs, Concluded, Ends, EndsByWords, EndsWithAnswer, IsFinding, reply_to, refusal_in, task_refusal, refusal_of_choice, words_refusal}
 use Rattle.composer_top.specs.declared.report.Report.{Report}
 
 -- what a run ends with: its answer, or want of memory

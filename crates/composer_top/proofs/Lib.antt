@@ -1,4 +1,3 @@
 pub mod Endings
-pub mod FileFaults
 pub mod WholeSets
 pub mod WordsFirst

@@ -1,11 +1,7 @@
 -- What a command answers, and how a run ends.
-pub mod Texts
-pub mod Documents
 pub mod Tables
 pub mod Lookup
 pub mod Files
-pub mod ProjectManifest
-pub mod ProjectLock
 pub mod Check
 use Rattle.std.specs.Prelude.{◌≡◌, ◌≢◌, ◌⊎◌, ℕ, List, [], ◌∷◌, ◌++◌, IsTrue, Option, Some, None, Result, Ok, Err, MatchResult, IfErr, IfSome}
 use Rattle.path_name.specs.Given.{◌>>=◌}
@@ -73,12 +69,6 @@ refusal_of_choice (Err refusal) = Some refusal
 
 unfoldable pub words_refusal : List (List ℕ) → Option Refusal
 words_refusal words = refusal_of_choice (chosen_in words)
-
--- ---- what a step tells
-
--- What a step gives is what is wanted, or the tree failed, or memory ran out.
-abbrev pub Tells : {X Y : Type 0} → (X → Y) → Result Y Refusal → Result X Refusal → Type 0
-Tells view wanted result = MatchResult result (λ x. wanted ≡ Ok (view x)) (λ refusal. IsTrue (is_free refusal) ⊎ (wanted ≡ Err refusal))
 
 -- A report ends well, or with what was found: its status is then 1.
 abbrev pub IsFinding : Report → Type 0

@@ -5,7 +5,7 @@ ghost use Rattle.std.specs.List.{flat_map};
 ghost use Rattle.path_name.specs.Paths.{path_text};
 ghost use Rattle.tree_dev.specs.Device.{OnlyRead, OfTold};
 ghost use Rattle.run_answers.specs.Faults.{is_of_tree, is_device_fault};
-ghost use Rattle.composer_top.specs.Outcome.{Tells};
+ghost use Rattle.run_answers.specs.Steps.{Tells};
 ghost use Rattle.composer_top.specs.Outcome.Files.{file_lines, files_outcome};
 
 use crate::table_files::{file_tables, refuse_pending};

@@ -4,17 +4,12 @@
 
 mod check;
 mod chosen;
-mod documents;
 mod files;
 mod laws;
 mod lookup;
-mod places;
-mod project_lock;
-mod project_manifest;
 mod report;
 mod runner;
 mod table_files;
-mod texts;
 
 pub use laws::words_first;
 pub use report::{Report, refuse};

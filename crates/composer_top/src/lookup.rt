@@ -7,7 +7,8 @@ ghost use Rattle.tree_dev.specs.Device.{OnlyRead, OfTold};
 ghost use Rattle.class_paths.specs.ClassNames.{IsClassName};
 ghost use Rattle.run_answers.specs.Faults.{is_of_tree, is_device_fault};
 ghost use Rattle.run_answers.specs.declared.refusal.Refusal.TheVariants.{OutOfMemory};
-ghost use Rattle.composer_top.specs.Outcome.{Tells, KeepsToWords, refusal_in};
+ghost use Rattle.run_answers.specs.Steps.{Tells};
+ghost use Rattle.composer_top.specs.Outcome.{KeepsToWords, refusal_in};
 ghost use Rattle.composer_top.specs.Outcome.Lookup.{refusal_of_lookup, named, found_in, looked_up, lookup_outcome};
 
 use crate::table_files::{class_tables, refuse_pending};

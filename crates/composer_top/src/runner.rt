@@ -4,7 +4,8 @@ ghost use Rattle.std.specs.Prelude.{◌≡◌, map, nat_eq, None, IfOk};
 ghost use Rattle.std.specs.String.{string_bytes};
 ghost use Rattle.tree_dev.specs.Device.{OnlyRead, OfTold, Rose};
 ghost use Rattle.run_answers.specs.Faults.{is_device_fault};
-ghost use Rattle.composer_top.specs.Outcome.{Tells, KeepsToWords, outcome_of, task_outcome, task_refusal, words_refusal, path_line, Ends, EndsByWords, EndsWithAnswer, IsFinding};
+ghost use Rattle.run_answers.specs.Steps.{Tells};
+ghost use Rattle.composer_top.specs.Outcome.{KeepsToWords, outcome_of, task_outcome, task_refusal, words_refusal, path_line, Ends, EndsByWords, EndsWithAnswer, IsFinding};
 
 use crate::check::check;
 use crate::chosen::chosen;

@@ -4,12 +4,11 @@ ghost use Rattle.std.specs.Prelude.{◌≡◌, false, All, IsTrue, IfOk, IfErr, 
 ghost use Rattle.table_scan.specs.TableGrammar.{is_whole};
 ghost use Rattle.tree_dev.specs.Device.{OnlyRead, OfTold, Rose};
 ghost use Rattle.run_answers.specs.Faults.{is_free, is_of_tree, is_device_fault};
-ghost use Rattle.composer_top.specs.Outcome.{Tells};
+ghost use Rattle.run_answers.specs.Steps.{Tells};
 ghost use Rattle.composer_top.specs.Outcome.Tables.{not_pending, table_text_in, is_there, has_class_table, class_texts_in, file_texts_in, tables_in, class_tables_in, file_tables_in};
 
-use crate::places;
-use crate::texts::text_at;
 use path_name::{Path, Text};
+use project_files::{places, text_at};
 use run_answers::Refusal;
 use std::alloc::Global;
 use table_scan::{TableFile, TableTexts, Tables};

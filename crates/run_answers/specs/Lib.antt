@@ -1,3 +1,4 @@
 pub mod Statuses
 pub mod Messages
 pub mod Faults
+pub mod Steps

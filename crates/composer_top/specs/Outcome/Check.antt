@@ -18,9 +18,9 @@ use Rattle.run_answers.specs.declared.refusal.Refusal.{Refusal}
 use Rattle.run_answers.specs.declared.refusal.Refusal.TheVariants as refusals
 use Rattle.lock_file.specs.declared.types.Lock.{Lock}
 use Rattle.composer_top.specs.declared.report.Report.{Report}
-use Rattle.composer_top.specs.declared.project_manifest.ProjectManifest.{ProjectManifest}
-use Rattle.composer_top.specs.Outcome.ProjectManifest.{project_manifest_in}
-use Rattle.composer_top.specs.Outcome.ProjectLock.{project_lock_in, pool_in}
+use Rattle.project_files.specs.declared.manifests.ProjectManifest.{ProjectManifest}
+use Rattle.project_files.specs.ProjectManifest.{project_manifest_in}
+use Rattle.project_files.specs.ProjectLock.{project_lock_in, pool_in}
 
 -- the set of all candidates
 abbrev pub whole : Pool → Chosen

@@ -14,8 +14,8 @@ use Rattle.table_scan.specs.declared.types.TableFault.{TableFault}
 use Rattle.run_answers.specs.Faults.{refusal_of_table}
 use Rattle.run_answers.specs.declared.refusal.Refusal.{Refusal}
 use Rattle.run_answers.specs.declared.refusal.Refusal.TheVariants as refusals
-use Rattle.composer_top.specs.Places.{table_place}
-use Rattle.composer_top.specs.Outcome.Texts.{text_in}
+use Rattle.project_files.specs.Places.{table_place}
+use Rattle.project_files.specs.Texts.{text_in}
 
 abbrev pub is_kind_there : Kind → Bool
 is_kind_there kinds.Absent = false

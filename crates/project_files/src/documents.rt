@@ -4,8 +4,8 @@ ghost use Rattle.std.specs.Prelude.{◌≡◌, false, IsTrue, IfOk, IfErr};
 ghost use Rattle.json_ordered.specs.Docs.{tree_of};
 ghost use Rattle.manifest_read.specs.Writable.{IsWritten};
 ghost use Rattle.run_answers.specs.Faults.{is_of_tree, is_of_device, is_device_fault};
-ghost use Rattle.composer_top.specs.Outcome.{Tells};
-ghost use Rattle.composer_top.specs.Outcome.Documents.{document_in, refusal_of_fields};
+ghost use Rattle.run_answers.specs.Steps.{Tells};
+ghost use Rattle.project_files.specs.Documents.{document_in, refusal_of_fields};
 
 use json_ordered::{Doc, JsonFault};
 use manifest_read::FieldFault;
@@ -13,7 +13,7 @@ use run_answers::{DocumentFault, NamedFile, Refusal};
 use std::alloc::Global;
 
 /// The document of a file's text (RFC 8259). `BadDocument` comes where the text is no JSON, with the place.
-#[tactic(auto, using(crate::proofs::FileFaults::from_tree, crate::proofs::FileFaults::no_device), unfolding(crate::specs::Outcome::Documents::document_in))]
+#[tactic(auto, using(crate::proofs::FileFaults::from_tree, crate::proofs::FileFaults::no_device), unfolding(crate::specs::Documents::document_in))]
 pub fn document(alloc: Global, file: NamedFile, text: &[u8]) -> Result<Doc, Refusal>
     ensures told { Tells tree_of (document_in file text.now) result }
     // Texts are UTF-8, and the names of each object are distinct.

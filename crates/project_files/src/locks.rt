@@ -6,8 +6,8 @@ ghost use Rattle.tree_dev.specs.Device.{OnlyRead, OfTold};
 ghost use Rattle.json_ordered.specs.Docs.{tree_of};
 ghost use Rattle.lock_file.specs.FormedLocks.{IsLock};
 ghost use Rattle.run_answers.specs.Faults.{is_of_tree, is_device_fault};
-ghost use Rattle.composer_top.specs.Outcome.{Tells};
-ghost use Rattle.composer_top.specs.Outcome.ProjectLock.{lock_text_in, fields_in, few_packages, lock_of_text, project_lock_in, has_name, packages_of, url_text_of, pool_in};
+ghost use Rattle.run_answers.specs.Steps.{Tells};
+ghost use Rattle.project_files.specs.ProjectLock.{lock_text_in, fields_in, few_packages, lock_of_text, project_lock_in, has_name, packages_of, url_text_of, pool_in};
 
 use crate::documents::{document, refusal_of_fields};
 use crate::places;
@@ -22,7 +22,7 @@ use std::alloc::{AllocError, Global};
 use tree_dev::{LimitKind, Tree};
 
 /// The text of composer.lock. `NoLock` comes where nothing is there.
-#[tactic(auto, unfolding(crate::specs::Outcome::ProjectLock::lock_text_in))]
+#[tactic(auto, unfolding(crate::specs::ProjectLock::lock_text_in))]
 fn lock_text<T: Tree>(alloc: Global, project: &Path, tree: &mut T) -> Result<Text, Refusal>
     ensures told { OfTold (T.meaning tree.old) (λ t. Tells (λ text. text) (lock_text_in t project.now) result) }
     ensures only_read { OnlyRead (T.meaning tree.old) (T.meaning tree.new) (is_device_fault result) }
@@ -35,7 +35,7 @@ fn lock_text<T: Tree>(alloc: Global, project: &Path, tree: &mut T) -> Result<Tex
 }
 
 /// The fields of the document of a composer.lock.
-#[tactic(auto, unfolding(crate::specs::Outcome::ProjectLock::fields_in))]
+#[tactic(auto, unfolding(crate::specs::ProjectLock::fields_in))]
 fn fields_of(alloc: Global, doc: &Doc) -> Result<Lock, Refusal>
     ensures told { Tells (λ lock. lock) (fields_in (tree_of doc.now)) result }
     ensures formed { IfOk result (λ lock. IsLock lock) }
@@ -49,7 +49,7 @@ fn fields_of(alloc: Global, doc: &Doc) -> Result<Lock, Refusal>
 }
 
 /// Refuses a lock of more than `PACKAGES` packages.
-#[tactic(auto, unfolding(crate::specs::Outcome::ProjectLock::few_packages))]
+#[tactic(auto, unfolding(crate::specs::ProjectLock::few_packages))]
 fn refuse_many(lock: &Lock) -> Result<(), Refusal>
     ensures told { Tells (λ passed. passed) (few_packages lock.now) result }
     ensures no_device { is_device_fault result ≡ false }
@@ -64,7 +64,7 @@ fn refuse_many(lock: &Lock) -> Result<(), Refusal>
 }
 
 /// The lock that a text describes.
-#[tactic(auto, unfolding(crate::specs::Outcome::ProjectLock::lock_of_text))]
+#[tactic(auto, unfolding(crate::specs::ProjectLock::lock_of_text))]
 fn lock_of(alloc: Global, text: &[u8]) -> Result<Lock, Refusal>
     ensures told { Tells (λ lock. lock) (lock_of_text text.now) result }
     ensures formed { IfOk result (λ lock. IsLock lock) }
@@ -81,7 +81,7 @@ fn lock_of(alloc: Global, text: &[u8]) -> Result<Lock, Refusal>
 /// `OtherEntry` where something else than a file is; `Limit` where it has more than `FILE_BYTES` bytes; `BadDocument`
 /// where its text is no JSON (RFC 8259), with the place; `BadDocument` or `NotOffered` of its first field that is bad or
 /// isn't offered; `Limit` where both lists together have more than `PACKAGES` packages. The tree is only read.
-#[tactic(auto, unfolding(crate::specs::Outcome::ProjectLock::project_lock_in))]
+#[tactic(auto, unfolding(crate::specs::ProjectLock::project_lock_in))]
 pub fn project_lock<T: Tree>(alloc: Global, project: &Path, tree: &mut T) -> Result<Lock, Refusal>
     ensures told { OfTold (T.meaning tree.old) (λ t. Tells (λ lock. lock) (project_lock_in t project.now) result) }
     ensures formed { IfOk result (λ lock. IsLock lock) }
@@ -121,7 +121,7 @@ fn url_text(alloc: Global, lock: &Lock, name: &Name) -> Result<Text, AllocError>
 
 /// The packages of a lock as a pool, those of `packages` first, with the folders to which their urls lead from the
 /// project. `MissingPath` comes for the first package whose url leads above the root of the tree, with the url.
-#[tactic(auto, unfolding(crate::specs::Outcome::ProjectLock::pool_in))]
+#[tactic(auto, unfolding(crate::specs::ProjectLock::pool_in))]
 pub fn pool_of(alloc: Global, root: Manifest, lock: &Lock, project: &Path) -> Result<Pool, Refusal>
     ensures told { Tells (λ pool. pool) (pool_in root lock.now project.now) result }
     ensures no_device { is_device_fault result ≡ false }

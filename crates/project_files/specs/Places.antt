@@ -14,3 +14,15 @@ table_place project table = project ++ vendor_name ∷ composer_name ∷ table_n
 -- composer.json
 abbrev pub manifest_place : List (List ℕ) → List (List ℕ)
 manifest_place project = project ++ codes "composer.json" ∷ []
+
+-- vendor/composer
+abbrev pub composer_place : List (List ℕ) → List (List ℕ)
+composer_place project = project ++ vendor_name ∷ composer_name ∷ []
+
+-- vendor/composer/installed.json
+abbrev pub installed_place : List (List ℕ) → List (List ℕ)
+installed_place project = project ++ vendor_name ∷ composer_name ∷ codes "installed.json" ∷ []
+
+-- vendor/autoload.php
+abbrev pub autoloader_place : List (List ℕ) → List (List ℕ)
+autoloader_place project = project ++ vendor_name ∷ codes "autoload.php" ∷ []

@@ -3,8 +3,8 @@ use Rattle.std.specs.Str.{is_utf8, chars}
 use Rattle.path_name.specs.Paths.{path_of}
 use Rattle.table_scan.specs.TableGrammar.{vendor_name}
 use Rattle.table_scan.specs.TableNames.{table_name}
-use Rattle.composer_top.specs.Places.{composer_name}
-use Rattle.composer_top.proofs.places.table_text.Goals as goal
+use Rattle.project_files.specs.Places.{composer_name}
+use Rattle.project_files.proofs.places.table_text.Goals as goal
 
 pub returns-in-Psr4 : goal.returns-in-Psr4
 unfolding path_of is_utf8 chars lib.Utf8.encode vendor_name composer_name table_name

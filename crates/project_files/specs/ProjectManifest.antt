@@ -12,10 +12,10 @@ use Rattle.manifest_read.specs.declared.types.Role.TheVariants.{Root}
 use Rattle.run_answers.specs.declared.refusal.NamedFile.TheVariants as files
 use Rattle.run_answers.specs.declared.refusal.Refusal.{Refusal}
 use Rattle.run_answers.specs.declared.refusal.Refusal.TheVariants as refusals
-use Rattle.composer_top.specs.declared.project_manifest.ProjectManifest.{ProjectManifest}
-use Rattle.composer_top.specs.Places.{manifest_place}
-use Rattle.composer_top.specs.Outcome.Texts.{text_in}
-use Rattle.composer_top.specs.Outcome.Documents.{document_in, or_bad_fields}
+use Rattle.project_files.specs.declared.manifests.ProjectManifest.{ProjectManifest}
+use Rattle.project_files.specs.Places.{manifest_place}
+use Rattle.project_files.specs.Texts.{text_in}
+use Rattle.project_files.specs.Documents.{document_in, or_bad_fields}
 
 abbrev pub or_no_manifest : Option (List ℕ) → Result (List ℕ) Refusal
 or_no_manifest (Some text) = Ok text

@@ -2,8 +2,8 @@ use Rattle.std.proofs.Common.{◌≡◌, ◌∙◌, ◌++◌, List, Bool, Some, 
 use Rattle.std.specs.Prelude.{find}
 use Rattle.std.specs.Option.{option_or}
 use Rattle.std.proofs.lemmas.List.Folds.{find-append}
-use Rattle.composer_top.specs.Outcome.ProjectLock.{has_name}
-use Rattle.composer_top.proofs.project_lock.locked_as.Goals as goal
+use Rattle.project_files.specs.ProjectLock.{has_name}
+use Rattle.project_files.proofs.locks.locked_as.Goals as goal
 
 in_first : {X : Type 0} (p : X → Bool) (xs ys : List X) (x : X) → Some x ≡ find p xs → Some x ≡ find p (xs ++ ys)
 in_first p xs ys x e = ap (λ found. option_or found (find p ys)) e ∙ sym (find-append p xs ys)

@@ -5,7 +5,7 @@ ghost use Rattle.path_name.specs.Paths.{path_of};
 ghost use Rattle.table_scan.specs.TableGrammar.{vendor_name};
 ghost use Rattle.table_scan.specs.TableNames.{table_name};
 ghost use Rattle.tree_dev.specs.Projects.{journal_path, lock_path};
-ghost use Rattle.composer_top.specs.Places.{composer_name, table_place, manifest_place};
+ghost use Rattle.project_files.specs.Places.{composer_name, table_place, manifest_place, composer_place, installed_place, autoloader_place};
 
 use path_name::{Path, PathFault};
 use std::alloc::{AllocError, Global};
@@ -39,6 +39,27 @@ pub fn lock(alloc: Global, project: &Path) -> Result<Path, AllocError>
     project.child(alloc, b"composer.lock")
 }
 
+/// Where the folder `vendor/composer` of the project stands. Its one refusal is want of memory.
+pub fn composer_folder(alloc: Global, project: &Path) -> Result<Path, AllocError>
+    ensures { IfOk result (λ path. path ≡ composer_place project.now) }
+{
+    project.join(alloc, &known_path(alloc, composer_text())?)
+}
+
+/// Where the project's list of what is installed stands. Its one refusal is want of memory.
+pub fn installed(alloc: Global, project: &Path) -> Result<Path, AllocError>
+    ensures { IfOk result (λ path. path ≡ installed_place project.now) }
+{
+    project.join(alloc, &known_path(alloc, installed_text())?)
+}
+
+/// Where the autoloader of the project stands. Its one refusal is want of memory.
+pub fn autoloader(alloc: Global, project: &Path) -> Result<Path, AllocError>
+    ensures { IfOk result (λ path. path ≡ autoloader_place project.now) }
+{
+    project.join(alloc, &known_path(alloc, autoloader_text())?)
+}
+
 /// The path of a text that names one.
 fn known_path(alloc: Global, text: &[u8]) -> Result<Path, AllocError>
     requires { IsOk (path_of text.now) }
@@ -68,4 +89,22 @@ fn journal_text() -> &'static [u8]
     ensures { path_of result.now ≡ Ok (codes ".install" ∷ codes "journal" ∷ []) }
 {
     b".install/journal"
+}
+
+fn composer_text() -> &'static [u8]
+    ensures { path_of result.now ≡ Ok (vendor_name ∷ composer_name ∷ []) }
+{
+    b"vendor/composer"
+}
+
+fn installed_text() -> &'static [u8]
+    ensures { path_of result.now ≡ Ok (vendor_name ∷ composer_name ∷ codes "installed.json" ∷ []) }
+{
+    b"vendor/composer/installed.json"
+}
+
+fn autoloader_text() -> &'static [u8]
+    ensures { path_of result.now ≡ Ok (vendor_name ∷ codes "autoload.php" ∷ []) }
+{
+    b"vendor/autoload.php"
 }

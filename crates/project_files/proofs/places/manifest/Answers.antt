@@ -1,6 +1,6 @@
 use Rattle.std.proofs.Common.{refl}
 use Rattle.std.specs.Str.{is_utf8, chars}
-use Rattle.composer_top.proofs.places.manifest.Goals as goal
+use Rattle.project_files.proofs.places.manifest.Goals as goal
 
 pub child-requires : goal.child-requires
 unfolding is_utf8 chars lib.Utf8.encode

@@ -7,8 +7,8 @@ ghost use Rattle.manifest_read.specs.WellFormed.{IsManifest};
 ghost use Rattle.manifest_read.specs.Writable.{IsWritten, IsWritableManifest};
 ghost use Rattle.manifest_read.specs.declared.types.Role.TheVariants as roles;
 ghost use Rattle.run_answers.specs.Faults.{is_of_tree, is_device_fault};
-ghost use Rattle.composer_top.specs.Outcome.{Tells};
-ghost use Rattle.composer_top.specs.Outcome.ProjectManifest.{manifest_text_in, root_in, manifest_of_text, project_manifest_in};
+ghost use Rattle.run_answers.specs.Steps.{Tells};
+ghost use Rattle.project_files.specs.ProjectManifest.{manifest_text_in, root_in, manifest_of_text, project_manifest_in};
 
 use crate::documents::{document, refusal_of_fields};
 use crate::places;
@@ -31,7 +31,7 @@ pub struct ProjectManifest {
 }
 
 /// The text of composer.json. `NoManifest` comes where nothing is there.
-#[tactic(auto, unfolding(crate::specs::Outcome::ProjectManifest::manifest_text_in))]
+#[tactic(auto, unfolding(crate::specs::ProjectManifest::manifest_text_in))]
 fn manifest_text<T: Tree>(alloc: Global, project: &Path, tree: &mut T) -> Result<Text, Refusal>
     ensures told { OfTold (T.meaning tree.old) (λ t. Tells (λ text. text) (manifest_text_in t project.now) result) }
     ensures only_read { OnlyRead (T.meaning tree.old) (T.meaning tree.new) (is_device_fault result) }
@@ -44,7 +44,7 @@ fn manifest_text<T: Tree>(alloc: Global, project: &Path, tree: &mut T) -> Result
 }
 
 /// The fields of the document of a composer.json.
-#[tactic(auto, unfolding(crate::specs::Outcome::ProjectManifest::root_in))]
+#[tactic(auto, unfolding(crate::specs::ProjectManifest::root_in))]
 fn root_of(alloc: Global, doc: &Doc) -> Result<Manifest, Refusal>
     ensures told { Tells (λ root. root) (root_in (tree_of doc.now)) result }
     ensures formed { IfOk result (λ root. IsManifest roles.Root root) }
@@ -59,7 +59,7 @@ fn root_of(alloc: Global, doc: &Doc) -> Result<Manifest, Refusal>
 }
 
 /// What the text of a composer.json says.
-#[tactic(auto, unfolding(crate::specs::Outcome::ProjectManifest::manifest_of_text))]
+#[tactic(auto, unfolding(crate::specs::ProjectManifest::manifest_of_text))]
 fn manifest_of(alloc: Global, text: &[u8]) -> Result<ProjectManifest, Refusal>
     ensures told { Tells (λ manifest. manifest) (manifest_of_text text.now) result }
     ensures formed { IfOk result (λ manifest. IsManifest roles.Root manifest.root) }
@@ -77,7 +77,7 @@ fn manifest_of(alloc: Global, text: &[u8]) -> Result<ProjectManifest, Refusal>
 /// nothing is there; `OtherEntry` where something else than a file is; `Limit` where it has more than `FILE_BYTES`
 /// bytes; `BadDocument` where its text is no JSON (RFC 8259), with the place; `BadDocument` or `NotOffered` of its first
 /// field that is bad or isn't offered. The tree is only read.
-#[tactic(auto, unfolding(crate::specs::Outcome::ProjectManifest::project_manifest_in))]
+#[tactic(auto, unfolding(crate::specs::ProjectManifest::project_manifest_in))]
 pub fn project_manifest<T: Tree>(
     alloc: Global,
     project: &Path,

@@ -21,8 +21,8 @@ use Rattle.lock_file.specs.declared.fault.LockPoolFault.TheVariants as pool_faul
 use Rattle.run_answers.specs.declared.refusal.NamedFile.TheVariants as files
 use Rattle.run_answers.specs.declared.refusal.Refusal.{Refusal}
 use Rattle.run_answers.specs.declared.refusal.Refusal.TheVariants as refusals
-use Rattle.composer_top.specs.Outcome.Texts.{text_in}
-use Rattle.composer_top.specs.Outcome.Documents.{document_in, or_bad_fields}
+use Rattle.project_files.specs.Texts.{text_in}
+use Rattle.project_files.specs.Documents.{document_in, or_bad_fields}
 
 abbrev pub or_no_lock : Option (List ℕ) → Result (List ℕ) Refusal
 or_no_lock (Some text) = Ok text
