@@ -58,6 +58,8 @@ build() {
         echo 'composer: another start is building; waiting for it' >&2
         flock 9
     fi
+    # What a build left that was killed.
+    rm -rf "$built"/work.*
     work=$(mktemp -d "$built/work.XXXXXX")
     trap 'rm -rf "$work"' EXIT
     trap 'exit 130' INT
