@@ -184,19 +184,22 @@ fn put_long(
     Ok(())
 }
 
+/// Whether what is told begins so of a package whose composer.json has so many bytes.
+fn begins_with(rt: &impl Abort, alloc: Global, len: usize, wanted: &[u8]) -> Result<(), Fail> {
+    let mut tree = MemoryTree::new(alloc)?;
+    put_long(rt, alloc, &mut tree, b"p/composer.json", len)?;
+    begins(rt, alloc, &mut tree, b"p", 9, wanted)?;
+    Ok(())
+}
+
 #[test]
 fn bytes_of_a_file(rt: HostRuntime) -> Result<(), Fail> {
-    let mut tree = MemoryTree::new(rt.alloc())?;
-    put_long(&rt, rt.alloc(), &mut tree, b"p/composer.json", 67_108_865)?;
-    begins(
-        &rt,
-        rt.alloc(),
-        &mut tree,
-        b"p",
-        9,
-        b"file bytes p/composer.json",
-    )?;
-    Ok(())
+    begins_with(&rt, rt.alloc(), 67_108_864, b"utf8 p/composer.json 0")
+}
+
+#[test]
+fn a_file_of_one_byte_more(rt: HostRuntime) -> Result<(), Fail> {
+    begins_with(&rt, rt.alloc(), 67_108_865, b"file bytes p/composer.json")
 }
 
 /// Whether what is told begins so of a package whose composer.json has 14 bytes, and another one with so many.
@@ -220,6 +223,6 @@ fn bytes_of_a_pool(rt: HostRuntime) -> Result<(), Fail> {
 }
 
 #[test]
-fn one_byte_more(rt: HostRuntime) -> Result<(), Fail> {
+fn a_pool_of_one_byte_more(rt: HostRuntime) -> Result<(), Fail> {
     begins_behind(&rt, rt.alloc(), 67_108_851, b"pool bytes")
 }
