@@ -4,7 +4,7 @@ use path_name::{Path, Text, push_number};
 use std::alloc::Global;
 use std::process::Abort;
 use std::test::Fail;
-use tree_dev::{Did, Entry};
+use tree_dev::{Did, Entry, FILE_BYTES};
 
 /// Refusals of composer.json, in their order, each with a later one there too.
 static REFUSED_MANIFESTS: [Row; 11] = [
@@ -307,6 +307,66 @@ fn is_refused(rt: &impl Abort, alloc: Global, count: u32, row: &Row) -> Result<(
         Did::Done
     );
     gives(rt, alloc, row, &mut tree)
+}
+
+/// Files of one byte too many, each with a later refusal there too.
+static LONG_FILES: [(&[u8], Row); 3] = [
+    (
+        MANIFEST,
+        Row {
+            project: &[(LOCK, Content::Folder), NO_FILE],
+            words: "check",
+            status: 12,
+            out: b"",
+            errs: b"error: limit FileBytes composer.json\n",
+        },
+    ),
+    (
+        LOCK,
+        Row {
+            project: &[(MANIFEST, Content::Bytes(b"{}")), NO_FILE],
+            words: "check",
+            status: 12,
+            out: b"",
+            errs: b"error: limit FileBytes composer.lock\n",
+        },
+    ),
+    (
+        LOCK,
+        Row {
+            project: &[
+                (
+                    MANIFEST,
+                    Content::Bytes(br#"{"repositories":[{"type":"vcs","url":"u"}]}"#),
+                ),
+                NO_FILE,
+            ],
+            words: "check",
+            status: 13,
+            out: b"",
+            errs: b"error: composer.json: not offered /repositories/0/type\n",
+        },
+    ),
+];
+
+/// Runs a row over a tree with a file of one byte too many at a path. Its text is no UTF-8, which is refused later.
+fn is_too_long(rt: &impl Abort, alloc: Global, at: &[u8], row: &Row) -> Result<(), Fail> {
+    let mut tree = tree_of(rt, alloc, row)?;
+    let mut text = Vec::new(alloc);
+    text.resize(FILE_BYTES as usize + 1, 0xff)?;
+    assert_eq!(rt;
+        tree.put(alloc, &Path::read(alloc, at)?, Entry::File(Text::of(text)))?,
+        Did::Done
+    );
+    gives(rt, alloc, row, &mut tree)
+}
+
+#[test]
+fn long_files(rt: HostRuntime) -> Result<(), Fail> {
+    for (at, row) in &LONG_FILES {
+        is_too_long(&rt, rt.alloc(), at, row)?;
+    }
+    Ok(())
 }
 
 #[test]
