@@ -14,3 +14,8 @@ pub mod OrderedRows
 pub mod LookedUp
 pub mod PrintedTables
 pub mod WalkedParts
+pub mod SomeCut
+pub mod RowWalks
+pub mod FoundNames
+pub mod Agreement
+pub mod BelowProject

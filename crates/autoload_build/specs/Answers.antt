@@ -1,5 +1,7 @@
 -- What a build of tables answers.
 use Rattle.std.specs.Prelude.{◌≡◌, ℕ, List, ◌++◌, Result, Ok, Err}
+use Rattle.std.specs.List.{AllByRecursion}
+use Rattle.path_name.specs.Paths.{BeginsWith}
 use Rattle.tree_dev.specs.Trees.{FileTree}
 use Rattle.class_walk.specs.Walks.{AreScansOf, Walked, class_scan}
 use Rattle.class_walk.specs.Faults.{Refuses, Tells}
@@ -19,6 +21,10 @@ walks_of t p mode left = class_scan t (jobs_of mode p) (patterns_of p) left
 abbrev pub Builds : Result Walked WalkFault → Project → Mode → ℕ → ℕ → Result Tables WalkFault → Type 0
 Builds wanted p mode generation left (Ok tables) = (walked : Walked) × (found : List Scanned) × (wanted ≡ Ok walked) × Tells walked found left × (tables ≡ tables_of p mode generation found)
 Builds wanted p mode generation left (Err fault) = Refuses fault wanted
+
+-- the files that were scanned lie at or below a folder
+abbrev pub AreShownBelow : List (List ℕ) → List Scanned → Type 0
+AreShownBelow folder found = AllByRecursion (λ scanned. BeginsWith scanned.shown folder) found
 
 -- what the walks of listed paths find in a tree, and what those of the folders of rows find behind it
 pub record AreFound (t : FileTree) (p : Project) (left : ℕ) (listed walked : List Scanned) : Type 0 where

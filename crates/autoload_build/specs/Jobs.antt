@@ -6,6 +6,7 @@ use Rattle.std.specs.Option.{option_map_or}
 use Rattle.std.specs.FinMap.{from_entries, keys}
 use Rattle.std.specs.declared.cmp.Ordering.{Ordering}
 use Rattle.path_name.specs.Orders.{byte_cmp, bytes_are_equal}
+use Rattle.path_name.specs.Paths.{BeginsWith}
 use Rattle.tree_dev.specs.Projects.{vendor_path, work_path}
 use Rattle.manifest_read.specs.declared.types.PathText.{PathText}
 use Rattle.manifest_read.specs.declared.types.PrefixDirs.{PrefixDirs}
@@ -36,6 +37,10 @@ pub record Project : Type 0 where
 pub record HasReadManifests (p : Project) : Type 0 where
   pub root : IsManifest Root p.root
   pub members : AllByRecursion (λ one. IsPackage Member one.package) p.members
+
+-- its packages stand at or below its folder
+abbrev pub ArePlacedBelow : Project → Type 0
+ArePlacedBelow p = AllByRecursion (λ one. BeginsWith one.shown p.at) p.members
 
 -- its autoload rows
 abbrev pub rows : Project → List Route

@@ -12,7 +12,8 @@ mod sources;
 
 pub use building::tables;
 pub use laws::{
-    class_maps, optimised_tables, plain_tables, tables_can_be_printed, walks_of_rows_come_last,
+    authoritative_tables, class_maps, optimised_tables, plain_tables, tables_can_be_printed,
+    tables_lie_below, walks_of_rows_come_last,
 };
 
 #[cfg(test)]
