@@ -1,11 +1,13 @@
 //! All five tables.
 
-ghost use Rattle.std.specs.Prelude.{◌≡◌, ◌<◌, ◌^◌, ◌≤◌, length, IfOk};
+ghost use Rattle.std.specs.Prelude.{◌≡◌, ◌<◌, ◌^◌, ◌≤◌, List, length, IfOk};
 ghost use Rattle.std.specs.List.{flat_map};
 ghost use Rattle.tree_dev.specs.Device.{OfTold, OnlyRead};
 ghost use Rattle.class_walk.specs.Faults.{Answers, is_device_fault};
 ghost use Rattle.class_walk.specs.Walks.{class_scan};
+ghost use Rattle.class_walk.specs.declared.job.Scanned.{Scanned};
 ghost use Rattle.autoload_build.specs.Answers.{Builds, walks_of};
+ghost use Rattle.autoload_build.specs.BuiltTables.{tables_of};
 ghost use Rattle.autoload_build.specs.Steps.{excluded_by, jobs_by_mode, project_of, seen, tables_with};
 
 use crate::class_map::class_map;
@@ -55,6 +57,8 @@ pub fn tables<T: Tree>(
     // The tables of what the walks of the mode find, or their first refusal.
     ensures exact { OfTold (T.meaning tree.old) (λ t. Builds (walks_of t (project_of project.now root.now members.now dev) mode left.old.left)
         (project_of project.now root.now members.now dev) mode generation left.new.left result) }
+    // Over every tree they are the tables of some files that were found.
+    ensures formed { IfOk result (λ tables. (found : List Scanned) × (tables ≡ tables_of (project_of project.now root.now members.now dev) mode generation found)) }
     ensures only_read { OnlyRead (T.meaning tree.old) (T.meaning tree.new) (is_device_fault result) }
     ensures entries_fall { left.new.left ≤ left.old.left }
 {

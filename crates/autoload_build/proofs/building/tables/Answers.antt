@@ -21,3 +21,14 @@ returns-clause-exact g c =
     (ap seen c.as_slice-3.ensures.value ∙ c.in_ok-sources.ensures.loaded) in
     λ t told.
     built p c.args.mode (seen c.as_slice.result.now) (ap seen c.as_slice.ensures.value ∙ c.in_ok-sources.ensures.searched) t c.args.left.now.left c.scan.new.left.left c.args.generation found tables are (c.in_ok-found.ensures.exact t told)
+
+pub returns-clause-formed : goal.returns-clause-formed
+returns-clause-formed g c =
+    let p = project_of c.args.project.now c.args.root.now c.args.members.now c.args.dev in
+    let found = c.in_ok-found.found in (
+      found.items,
+      made p c.args.mode c.args.generation found.items (seen c.as_slice-3.result.now) c.as_slice-4.result.now c.in_ok-class_map.class_map.items c.in_ok-files.files.items
+          c.in_ok-with_rows.field-0 c.in_ok-with_rows.ensures (c.as_slice-4.ensures.value ∙ c.in_ok-rows.ensures.exact)
+          (c.in_ok-class_map.ensures ∙ ap (λ some. class_map_of (classes_of some)) c.as_slice-2.ensures.value) c.in_ok-files.ensures
+          (ap seen c.as_slice-3.ensures.value ∙ c.in_ok-sources.ensures.loaded),
+    )
