@@ -26,8 +26,8 @@ pub names_alike : (at : List (List ℕ)) (t m : FileTree) → IsAlike at t m →
 names_alike at t m alike = sorted_same (names_in m at) (names_in t at) (names_ascend m at) (names_ascend t at)
     (λ n. names_exactly m at n ∙ ap is_some (alike.each (n ∷ [])) ∙ sym (names_exactly t at n))
 
-here : (at : List (List ℕ)) (t m : FileTree) → is_root at ≡ false → IsAlike at t m → entry_at m at ≡ entry_at t at
-here at t m below alike =
+pub entry_alike : (at : List (List ℕ)) (t m : FileTree) → is_root at ≡ false → IsAlike at t m → entry_at m at ≡ entry_at t at
+entry_alike at t m below alike =
     entry_below_root m at below ∙ ap (map.get m) (sym (append_nil at)) ∙ alike.each [] ∙ ap (map.get t) (append_nil at) ∙ sym (entry_below_root t at below)
   where
     append_nil : (p : List (List ℕ)) → p ++ [] ≡ p
@@ -63,12 +63,12 @@ kinds_alike f g at d e left same here = ap (λ (r : Result ℕ StageFault). kind
 
 pub checked_alike : (levels : ℕ) (at : List (List ℕ)) (t m : FileTree) (left : ℕ) → is_root at ≡ false → IsAlike at t m → entry_checked levels m at left ≡ entry_checked levels t at left
 unfolding entry_checked
-checked_alike zero at t m left below alike = ap (λ (x : Option Entry). deep_checked at x left) (here at t m below alike)
+checked_alike zero at t m left below alike = ap (λ (x : Option Entry). deep_checked at x left) (entry_alike at t m below alike)
 checked_alike (suc levels) at t m left below alike =
     kinds_alike _ _ at _ _ left
     (folder_alike (entry_checked levels m) (entry_checked levels t) passes_all at t m left alike
     (λ name rest. checked_alike levels (at ++ name ∷ []) t m rest (not_root-append at (name ∷ []) below) (alike_child at name t m alike)))
-    (here at t m below alike)
+    (entry_alike at t m below alike)
 
 sources_alike : (f g : Result ℕ StageFault) (at : List (List ℕ)) (d e : Option Entry) → f ≡ g → d ≡ e → source_kind_checked f at d ≡ source_kind_checked g at e
 sources_alike f g at d e same here = ap (λ (r : Result ℕ StageFault). source_kind_checked r at d) same ∙ ap (λ (x : Option Entry). source_kind_checked g at x) here
@@ -79,4 +79,4 @@ package_alike at t m left below alike =
     sources_alike _ _ at _ _
     (folder_alike (entry_checked DEPTH m) (entry_checked DEPTH t) passes_top at t m left alike
     (λ name rest. checked_alike DEPTH (at ++ name ∷ []) t m rest (not_root-append at (name ∷ []) below) (alike_child at name t m alike)))
-    (here at t m below alike)
+    (entry_alike at t m below alike)

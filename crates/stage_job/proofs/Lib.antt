@@ -20,3 +20,6 @@ pub mod PartSteps
 pub mod PartsLoop
 pub mod WholeSteps
 pub mod NeverVanishes
+pub mod WriteSteps
+pub mod FileCounts
+pub mod MirroredFiles

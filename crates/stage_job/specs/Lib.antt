@@ -8,3 +8,4 @@ pub mod Copied
 pub mod Above
 pub mod Parts
 pub mod Staging
+pub mod Written

@@ -27,6 +27,7 @@ fn ensure_folder<T: Tree>(alloc: Global, tree: &mut T, at: &Path) -> Result<(), 
     ensures answer { OfTold (T.meaning tree.old) (λ t. (left : ℕ) → Answers (Ok left) left result) }
     ensures made { OnOk result (OfTold (T.meaning tree.old) (λ t. OfTold (T.meaning tree.new) (λ u. (path : List (List ℕ))
         → map.get u path ≡ (if eq_by_cmp path_cmp path at.now then Some Folder else map.get t path)))) }
+    ensures writes { (T.meaning tree.new).writes ≡ (T.meaning tree.old).writes }
 {
     match tree.make_dir(at)? {
         Made::New => Ok(()),
@@ -48,6 +49,7 @@ fn make_way<T: Tree>(
     ensures tells { KeepsTelling (T.meaning tree.old) (T.meaning tree.new) }
     ensures answer { OfTold (T.meaning tree.old) (λ t. (left : ℕ) → Answers (Ok left) left result) }
     ensures made { OnOk result (OfTold (T.meaning tree.old) (λ t. OfTold (T.meaning tree.new) (MakesFolders base.now names.now t))) }
+    ensures writes { (T.meaning tree.new).writes ≡ (T.meaning tree.old).writes }
 {
     let mut at = base.copy(alloc)?;
     for name in names {
@@ -80,6 +82,7 @@ pub fn make_above<T: Tree>(
     ensures tells { KeepsTelling (T.meaning tree.old) (T.meaning tree.new) }
     ensures answer { OfTold (T.meaning tree.old) (λ t. (left : ℕ) → Answers (Ok left) left result) }
     ensures made { OnOk result (OfTold (T.meaning tree.old) (λ t. OfTold (T.meaning tree.new) (MakesFolders base.now (front_of below.now) t))) }
+    ensures writes { (T.meaning tree.new).writes ≡ (T.meaning tree.old).writes }
 {
     let names = front_names(alloc, below)?;
     make_way(alloc, tree, base, names.as_slice())

@@ -1,6 +1,6 @@
 //! Laws of jobs, each as the contract of a function that does nothing.
 
-ghost use Rattle.std.specs.Prelude.{◌≡◌, ℕ, List, ◌∷◌, ◌++◌, Some, false};
+ghost use Rattle.std.specs.Prelude.{◌≡◌, ◌≤◌, ℕ, length, List, ◌∷◌, ◌++◌, Some, false};
 ghost use Rattle.std.specs.List.{slice_get};
 ghost use Rattle.tree_dev.specs.Trees.{FileTree};
 ghost use Rattle.tree_dev.specs.Projects.{file_at};
@@ -9,6 +9,7 @@ ghost use Rattle.stage_job.specs.Faults.{is_vanished};
 ghost use Rattle.stage_job.specs.Jobs.{AreApart, AreParts, Files, job_result};
 ghost use Rattle.stage_job.specs.Places.{staged_path};
 ghost use Rattle.stage_job.specs.Staged.{IsStagedJob};
+ghost use Rattle.stage_job.specs.Written.{mirrored_files, package_files};
 ghost use Rattle.stage_job.specs.declared.job.Part.{Part as Parts};
 
 /// Two parts whose targets are apart commute: a job makes the same of a project whichever comes first.
@@ -22,6 +23,11 @@ pub fn staged_parts_are_new()
     ensures { (project : List (List ℕ)) (t staged : FileTree) (parts : List Parts) (number : ℕ) (part : Parts) (old : Files) (below : List (List ℕ)) → AreParts project parts
         → IsStagedJob project parts t staged → slice_get parts number ≡ Some part
         → file_at staged (staged_path project number ++ below) ≡ job_result project t parts old ((project ++ part.target) ++ below) }
+{}
+
+/// What a package counts are mirrored files of the tree, each at most once.
+pub fn counted_files_are_mirrored()
+    ensures { (t : FileTree) (source : List (List ℕ)) → package_files t source ≤ length (mirrored_files t source) }
 {}
 
 /// The sources of a job over a tree are never refused as vanished, so staging over a tree that tells never answers that.

@@ -13,7 +13,9 @@ mod whole;
 
 pub use fault::StageFault;
 pub use job::{Inner, Job, Leaf, Part, Source};
-pub use laws::{checks_never_vanish, parts_commute, staged_parts_are_new};
+pub use laws::{
+    checks_never_vanish, counted_files_are_mirrored, parts_commute, staged_parts_are_new,
+};
 pub use mirror::{copied_names, refuse_deep};
 pub use putting::list_names;
 pub use whole::stage;

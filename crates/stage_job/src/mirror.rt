@@ -2,7 +2,7 @@
 
 ghost use Rattle.std.specs.Prelude.{◌≡◌, ◌≤◌, ◌++◌, ◌∷◌, [], true, ℕ, List, IfOk, OnOk, filter, is_some, if◌then◌else◌};
 ghost use Rattle.std.specs.FinMap as map;
-ghost use Rattle.tree_dev.specs.Trees.{IsListing, entry_at};
+ghost use Rattle.tree_dev.specs.Trees.{IsListing, entry_at, names_in};
 ghost use Rattle.tree_dev.specs.Device.{OfTold, OnlyRead};
 ghost use Rattle.tree_dev.specs.Steady.{IsStaged};
 ghost use Rattle.stage_job.specs.Checked.{deep_checked, each_checked, entry_checked, folder_checked, kind_checked, package_checked, passes_all, passes_top};
@@ -11,6 +11,7 @@ ghost use Rattle.stage_job.specs.Faults.{Answers, is_device_fault};
 ghost use Rattle.stage_job.specs.Jobs.{AreApart};
 ghost use Rattle.stage_job.specs.Mirrored.{is_left_out, mirrored};
 ghost use Rattle.stage_job.specs.Staged.{IsFree, KeepsTelling, Puts, Staging};
+ghost use Rattle.stage_job.specs.Written.{Writes, entry_files, files_of_names, package_files};
 
 use crate::fault::StageFault;
 use crate::putting::{list_names, make_folder, put_file, vanished};
@@ -86,6 +87,7 @@ fn mirror_entry<T: Tree>(
     ensures tells { KeepsTelling (T.meaning tree.old) (T.meaning tree.new) }
     ensures checked { OfTold (T.meaning tree.old) (λ t. Answers (entry_checked levels t from.now left.old.left) left.new.left result) }
     ensures copied { OnOk result (OfTold (T.meaning tree.old) (λ t. OfTold (T.meaning tree.new) (Puts to.now (λ below. map.get t (from.now ++ below)) t))) }
+    ensures writes { OfTold (T.meaning tree.old) (λ t. Writes (entry_files levels t from.now) (T.meaning tree.old).writes (T.meaning tree.new).writes result) }
     ensures entries { left.new.left ≤ left.old.left }
 {
     if levels == 0 {
@@ -116,6 +118,7 @@ fn mirror_folder<T: Tree>(
     ensures tells { KeepsTelling (T.meaning tree.old) (T.meaning tree.new) }
     ensures checked { OfTold (T.meaning tree.old) (λ t. Answers (kind_checked (folder_checked (entry_checked levels t) passes_all t from.now left.old.left) from.now (entry_at t from.now) left.old.left) left.new.left result) }
     ensures copied { OnOk result (OfTold (T.meaning tree.old) (λ t. OfTold (T.meaning tree.new) (Puts to.now (λ below. map.get t (from.now ++ below)) t))) }
+    ensures writes { OfTold (T.meaning tree.old) (λ t. Writes (files_of_names levels t from.now (names_in t from.now)) (T.meaning tree.old).writes (T.meaning tree.new).writes result) }
     ensures entries { left.new.left ≤ left.old.left }
 {
     match list_names(alloc, tree, from, left)? {
@@ -146,6 +149,7 @@ fn mirror_names<T: Tree>(
     ensures tells { KeepsTelling (T.meaning tree.old) (T.meaning tree.new) }
     ensures checked { OfTold (T.meaning tree.old) (λ t. Answers (each_checked (entry_checked levels t) from.now names.now left.old.left) left.new.left result) }
     ensures copied { OnOk result (OfTold (T.meaning tree.old) (λ t. OfTold (T.meaning tree.new) (Puts to.now (names_entry t from.now names.now) t))) }
+    ensures writes { OfTold (T.meaning tree.old) (λ t. Writes (files_of_names levels t from.now names.now) (T.meaning tree.old).writes (T.meaning tree.new).writes result) }
     ensures entries { left.new.left ≤ left.old.left }
 {
     for name in names {
@@ -171,6 +175,7 @@ pub fn mirror_package<T: Tree>(
     ensures tells { KeepsTelling (T.meaning tree.old) (T.meaning tree.new) }
     ensures checked { OfTold (T.meaning tree.old) (λ t. Answers (package_checked t from.now left.old.left) left.new.left result) }
     ensures copied { OnOk result (OfTold (T.meaning tree.old) (λ t. OfTold (T.meaning tree.new) (Puts to.now (mirrored t from.now) t))) }
+    ensures writes { OfTold (T.meaning tree.old) (λ t. Writes (package_files t from.now) (T.meaning tree.old).writes (T.meaning tree.new).writes result) }
     ensures entries { left.new.left ≤ left.old.left }
 {
     match list_names(alloc, tree, from, left)? {

@@ -10,6 +10,7 @@ ghost use Rattle.stage_job.specs.Faults.{Answers, is_device_fault};
 ghost use Rattle.stage_job.specs.Jobs.{file_alone, folder_entry, is_itself, leaf_entry, part_entry};
 ghost use Rattle.stage_job.specs.Parts.{AreInnerFor, IsLeafApart, IsSourceApart, PutsInner};
 ghost use Rattle.stage_job.specs.Staged.{IsFree, KeepsTelling, Puts, Staging};
+ghost use Rattle.stage_job.specs.Written.{Writes, inner_files, leaf_files, part_files};
 
 use crate::above::make_above;
 use crate::fault::StageFault;
@@ -40,6 +41,7 @@ fn stage_bytes<T: Tree>(
     ensures tells { KeepsTelling (T.meaning tree.old) (T.meaning tree.new) }
     ensures checked { OfTold (T.meaning tree.old) (λ t. (left : ℕ) → Answers (bytes_checked target.now bytes.now left) left result) }
     ensures staged { OnOk result (OfTold (T.meaning tree.old) (λ t. OfTold (T.meaning tree.new) (Puts to.now (file_alone bytes.now) t))) }
+    ensures writes { Writes 1 (T.meaning tree.old).writes (T.meaning tree.new).writes result }
 {
     if is_too_long(bytes) {
         return Err(StageFault::Limit(LimitKind::FileBytes(target.copy(alloc)?)));
@@ -62,6 +64,7 @@ fn stage_leaf<T: Tree>(
     ensures tells { KeepsTelling (T.meaning tree.old) (T.meaning tree.new) }
     ensures checked { OfTold (T.meaning tree.old) (λ t. Answers (leaf_checked t target.now from.now left.old.left) left.new.left result) }
     ensures staged { OnOk result (OfTold (T.meaning tree.old) (λ t. OfTold (T.meaning tree.new) (Puts to.now (leaf_entry t from.now) t))) }
+    ensures writes { OfTold (T.meaning tree.old) (λ t. Writes (leaf_files t from.now) (T.meaning tree.old).writes (T.meaning tree.new).writes result) }
     ensures entries { left.new.left ≤ left.old.left }
 {
     match from {
@@ -87,6 +90,7 @@ fn stage_inner<T: Tree>(
     ensures tells { KeepsTelling (T.meaning tree.old) (T.meaning tree.new) }
     ensures checked { OfTold (T.meaning tree.old) (λ t. Answers (leaf_checked t (target.now ++ part.now.below) part.now.from left.old.left) left.new.left result) }
     ensures staged { OnOk result (OfTold (T.meaning tree.old) (λ t. OfTold (T.meaning tree.new) (PutsInner to.now part.now t))) }
+    ensures writes { OfTold (T.meaning tree.old) (λ t. Writes (leaf_files t part.now.from) (T.meaning tree.old).writes (T.meaning tree.new).writes result) }
     ensures entries { left.new.left ≤ left.old.left }
 {
     make_above(alloc, tree, to, &part.below)?;
@@ -110,6 +114,7 @@ fn stage_folder<T: Tree>(
     ensures tells { KeepsTelling (T.meaning tree.old) (T.meaning tree.new) }
     ensures checked { OfTold (T.meaning tree.old) (λ t. Answers (inner_checked t target.now inner.now left.old.left) left.new.left result) }
     ensures staged { OnOk result (OfTold (T.meaning tree.old) (λ t. OfTold (T.meaning tree.new) (Puts to.now (folder_entry t inner.now) t))) }
+    ensures writes { OfTold (T.meaning tree.old) (λ t. Writes (inner_files t inner.now) (T.meaning tree.old).writes (T.meaning tree.new).writes result) }
     ensures entries { left.new.left ≤ left.old.left }
 {
     make_folder(alloc, tree, to)?;
@@ -135,6 +140,7 @@ pub fn stage_part<T: Tree>(
     ensures tells { KeepsTelling (T.meaning tree.old) (T.meaning tree.new) }
     ensures checked { OfTold (T.meaning tree.old) (λ t. Answers (part_checked t target.now from.now left.old.left) left.new.left result) }
     ensures staged { OnOk result (OfTold (T.meaning tree.old) (λ t. OfTold (T.meaning tree.new) (Puts to.now (part_entry t from.now) t))) }
+    ensures writes { OfTold (T.meaning tree.old) (λ t. Writes (part_files t from.now) (T.meaning tree.old).writes (T.meaning tree.new).writes result) }
     ensures entries { left.new.left ≤ left.old.left }
 {
     match from {

@@ -2,7 +2,7 @@
 
 ghost use Rattle.std.specs.Prelude.{◌≡◌, ◌≤◌, ◌<◌, ◌-◌, length, ℕ, List, true, false, Ok, IfOk, IfSome, OnOk, if◌then◌else◌};
 ghost use Rattle.tree_dev.specs.Trees.{IsListing};
-ghost use Rattle.tree_dev.specs.Device.{OnlyRead, OfTold};
+ghost use Rattle.tree_dev.specs.Device.{OnlyRead, OfTold, next};
 ghost use Rattle.tree_dev.specs.Steady.{IsStaged};
 ghost use Rattle.stage_job.specs.Copied.{Lists, folder_alone};
 ghost use Rattle.stage_job.specs.Faults.{Answers, is_device_fault};
@@ -29,6 +29,7 @@ pub fn make_folder<T: Tree>(alloc: Global, tree: &mut T, at: &Path) -> Result<()
     ensures tells { KeepsTelling (T.meaning tree.old) (T.meaning tree.new) }
     ensures answer { OfTold (T.meaning tree.old) (λ t. (left : ℕ) → Answers (Ok left) left result) }
     ensures made { OnOk result (OfTold (T.meaning tree.old) (λ t. OfTold (T.meaning tree.new) (Puts at.now folder_alone t))) }
+    ensures writes { (T.meaning tree.new).writes ≡ (T.meaning tree.old).writes }
 {
     match tree.make_dir(at)? {
         Made::New => Ok(()),
@@ -49,6 +50,7 @@ pub fn put_file<T: Tree>(
     ensures tells { KeepsTelling (T.meaning tree.old) (T.meaning tree.new) }
     ensures answer { OfTold (T.meaning tree.old) (λ t. (left : ℕ) → Answers (Ok left) left result) }
     ensures made { OnOk result (OfTold (T.meaning tree.old) (λ t. OfTold (T.meaning tree.new) (Puts at.now (file_alone bytes.now) t))) }
+    ensures writes { (T.meaning tree.new).writes ≡ next (T.meaning tree.old).writes }
 {
     match tree.write(at, bytes)? {
         Did::Done => Ok(()),

@@ -12,6 +12,7 @@ ghost use Rattle.stage_job.specs.Parts.{IsSourceApart};
 ghost use Rattle.stage_job.specs.Places.{new_path};
 ghost use Rattle.stage_job.specs.Staged.{IsClaimed, IsFree, IsStagedJob, KeepsTelling, Puts, Staging};
 ghost use Rattle.stage_job.specs.Staging.{HasParents, HasProject, HasWorkFolders, PutsParents, PutsParts};
+ghost use Rattle.stage_job.specs.Written.{Writes, job_files, part_files};
 
 use crate::above::make_above;
 use crate::fault::StageFault;
@@ -47,6 +48,7 @@ fn stage_numbered<T: Tree>(
     ensures tells { KeepsTelling (T.meaning tree.old) (T.meaning tree.new) }
     ensures checked { OfTold (T.meaning tree.old) (λ t. Answers (part_checked t (project.now ++ part.now.target) part.now.from left.old.left) left.new.left result) }
     ensures staged { OnOk result (OfTold (T.meaning tree.old) (λ t. OfTold (T.meaning tree.new) (Puts (new.now ++ decimal_text number ∷ []) (part_entry t part.now.from) t))) }
+    ensures writes { OfTold (T.meaning tree.old) (λ t. Writes (part_files t part.now.from) (T.meaning tree.old).writes (T.meaning tree.new).writes result) }
     ensures entries { left.new.left ≤ left.old.left }
 {
     let name = number_name(alloc, number)?;
@@ -71,6 +73,7 @@ fn stage_parts<T: Tree>(
     ensures tells { KeepsTelling (T.meaning tree.old) (T.meaning tree.new) }
     ensures checked { OfTold (T.meaning tree.old) (λ t. Answers (job_checked project.now t parts.now left.old.left) left.new.left result) }
     ensures staged { OnOk result (OfTold (T.meaning tree.old) (λ t. OfTold (T.meaning tree.new) (PutsParts project.now parts.now (length parts.now) t))) }
+    ensures writes { OfTold (T.meaning tree.old) (λ t. Writes (job_files t parts.now) (T.meaning tree.old).writes (T.meaning tree.new).writes result) }
     ensures entries { left.new.left ≤ left.old.left }
 {
     for (number, part) in parts.iter().enumerate() {
@@ -93,6 +96,7 @@ fn make_parents<T: Tree>(
     ensures tells { KeepsTelling (T.meaning tree.old) (T.meaning tree.new) }
     ensures answer { OfTold (T.meaning tree.old) (λ t. (left : ℕ) → Answers (Ok left) left result) }
     ensures made { OnOk result (OfTold (T.meaning tree.old) (λ t. OfTold (T.meaning tree.new) (PutsParents project.now parts.now t))) }
+    ensures writes { (T.meaning tree.new).writes ≡ (T.meaning tree.old).writes }
 {
     for part in parts {
         make_above(alloc, tree, project, &part.target)?;
@@ -112,6 +116,7 @@ fn make_work_folders<T: Tree>(
     ensures tells { KeepsTelling (T.meaning tree.old) (T.meaning tree.new) }
     ensures answer { OfTold (T.meaning tree.old) (λ t. (left : ℕ) → Answers (Ok left) left result) }
     ensures made { OnOk result (OfTold (T.meaning tree.old) (λ t. OfTold (T.meaning tree.new) (HasWorkFolders project.now t))) }
+    ensures writes { (T.meaning tree.new).writes ≡ (T.meaning tree.old).writes }
 {
     let work = project.child(alloc, b".install")?;
     let new = work.child(alloc, b"new")?;
@@ -137,6 +142,7 @@ fn stage_whole<T: Tree>(
     ensures exact { OfTold (T.meaning tree.old) (λ t. Answers (job_checked project.now t parts.now left.old.left) left.new.left result) }
     ensures staged { OnOk result (OfTold (T.meaning tree.old) (λ t. OfTold (T.meaning tree.new) (λ u. IsStagedJob project.now parts.now t u
         × EachImage (T.meaning tree.new) (λ left. left ≡ u)))) }
+    ensures writes { OfTold (T.meaning tree.old) (λ t. Writes (job_files t parts.now) (T.meaning tree.old).writes (T.meaning tree.new).writes result) }
     ensures entries { left.new.left ≤ left.old.left }
 {
     let new = make_work_folders(alloc, tree, project)?;
@@ -153,7 +159,7 @@ fn stage_whole<T: Tree>(
 /// is neither a file nor a folder, `Limit` where a file is longer than `FILE_BYTES`, an entry lies more than 64 segments below
 /// its package, or more entries would be listed than are left. `Vanished` comes only where an entry that was shown or made is
 /// gone, or something stands where nothing did, and never over a tree that tells; `DeviceFault` only where the tree's count of
-/// faults rose.
+/// faults rose. It makes one call of `write` a file that the parts put, and no more than these where it refuses.
 pub fn stage<T: Tree>(
     alloc: Global,
     tree: &mut T,
@@ -169,6 +175,7 @@ pub fn stage<T: Tree>(
     ensures exact { OfTold (T.meaning tree.old) (λ t. Answers (job_checked project.now t job.now.parts left.old.left) left.new.left result) }
     ensures staged { OnOk result (OfTold (T.meaning tree.old) (λ t. OfTold (T.meaning tree.new) (λ u. IsStagedJob project.now job.now.parts t u
         × EachImage (T.meaning tree.new) (λ left. left ≡ u)))) }
+    ensures writes { OfTold (T.meaning tree.old) (λ t. Writes (job_files t job.now.parts) (T.meaning tree.old).writes (T.meaning tree.new).writes result) }
     ensures never_vanished { OfTold (T.meaning tree.old) (λ _. is_vanished result ≡ false) }
     ensures entries { left.new.left ≤ left.old.left }
 {

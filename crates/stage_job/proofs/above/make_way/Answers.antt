@@ -23,6 +23,7 @@ loop-name-init g c = record {
   tells = refl;
   at = c.in_ok-at.ensures ∙ sym (append-nil c.args.base.now);
   made = λ t told u now. subst (λ (v : FileTree). MakesFolders c.args.base.now [] t v) (same_some t u (sym told ∙ now)) (nothing_made c.args.base.now t);
+  writes = refl;
 }
 
 pub ensure_folder-requires : goal.ensure_folder-requires
@@ -66,6 +67,7 @@ loop-name-preserved g c =
           let m = told_after (g.T.Tree.meaning c.loop-name.tree).told c.loop-name.invariant.tells t told in
           one_folder_more c.args.base.now c.args.names.now c.loop-name.name-index c.name-item.result t m.0 c.loop-name-test.true c.name-item.is (c.requires.way t told) (c.loop-name.invariant.made t told m.0 m.1) u
           (rw is at (c.in_ok-ensure_folder.ensures.made m.0 m.1 u now));
+      writes = c.ensure_folder.ensures.writes ∙ c.loop-name.invariant.writes;
     }
 
 pub returns-clause-staging : goal.returns-clause-staging

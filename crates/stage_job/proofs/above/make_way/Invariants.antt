@@ -13,4 +13,5 @@ invariant-loop-name g l =
       tells : KeepsTelling (meaning l.fn.tree) (meaning l.tree);
       at : l.at ≡ l.base ++ take l.name-index l.names;
       made : OfTold (meaning l.fn.tree) (λ t. OfTold (meaning l.tree) (MakesFolders l.base (take l.name-index l.names) t));
+      writes : (meaning l.tree).writes ≡ (meaning l.fn.tree).writes;
     }

@@ -1,3 +1,6 @@
+use Rattle.stage_job.specs.Written.{entry_files, files_of_names}
+use Rattle.stage_job.proofs.WriteSteps.{all_written, file_writes, item_refused, item_written, lost_writes, none_writes, refused_writes, some_written, writes_same, writes_then}
+use Rattle.stage_job.proofs.FileCounts.{child_files, folder_files, names_files_alike, one_file}
 use Rattle.std.proofs.Common.{◌≡◌, ℕ, ◌+◌, ◌<◌, List, [], ◌∷◌, ◌++◌, Ok, take, get_or, length, refl, sym, ap, subst, ◌∙◌, arith}
 use Rattle.std.proofs.lemmas.List.{take_more}
 use Rattle.std.proofs.lemmas.Result.{on_ok_weaker}
@@ -201,6 +204,7 @@ mirror_names-loop-name-init g t c = record {
   put = λ told_tree told u now.
       let same = same_some told_tree u (sym told ∙ now) in
       subst (λ (v : FileTree). Puts c.args.to.now (names_entry told_tree c.args.from.now []) told_tree v) same (none_put c.args.from.now c.args.to.now told_tree (c.requires.empty told_tree told));
+  writes = λ told_tree told. refl;
   entries = omega arith;
 }
 
@@ -267,5 +271,86 @@ mirror_names-loop-name-preserved g t c =
           (child_put c.args.from.now c.args.to.now (take c.loop-name.name-index c.args.names.now) c.name-item.result told_tree m.0 so_far
           (fresh c.args.names.now c.loop-name.name-index c.name-item.result c.requires.listing c.loop-name-test.true c.name-item.is) c.requires.apart u
           (rw (c.in_ok-from_child.ensures, c.in_ok-to_child.ensures, c.as_slice.ensures, c.as_slice-in-loop-name.ensures) at (c.in_ok-mirror_entry.ensures.copied m.0 m.1 u now)));
+      writes = λ told_tree told.
+          let m = told_after (g.T.Tree.meaning c.loop-name.tree).told c.loop-name.invariant.tells told_tree told in
+          let so_far = c.loop-name.invariant.put told_tree told m.0 m.1 in
+          item_written (λ name. entry_files c.args.levels told_tree (c.args.from.now ++ name ∷ [])) c.args.names.now c.loop-name.name-index c.name-item.result
+          (g.T.Tree.meaning c.args.tree.now).writes (g.T.Tree.meaning c.loop-name.tree).writes c.loop-name-test.true c.name-item.is (c.loop-name.invariant.writes told_tree told)
+          (g.T.Tree.meaning c.mirror_entry.new.tree).writes _
+          (child_files c.args.levels c.args.from.now c.args.to.now c.name-item.result told_tree m.0 c.requires.apart so_far)
+          (rw (c.in_ok-from_child.ensures, c.as_slice.ensures) at (c.in_ok-mirror_entry.ensures.writes m.0 m.1));
       entries = omega (arith, c.mirror_entry.ensures.entries, c.loop-name.invariant.entries);
     }
+
+-- ---- calls of write
+
+pub mirror_entry-returns-then-levels-eq0-clause-writes : goal.mirror_entry-returns-then-levels-eq0-clause-writes
+mirror_entry-returns-then-levels-eq0-clause-writes g t c = λ told_tree told. lost_writes c.refuse_deep.result _ _ _ c.refuse_deep.ensures.refused c.refuse_deep.ensures.only_read.writes
+
+pub mirror_entry-returns-in_err-bytes-clause-writes : goal.mirror_entry-returns-in_err-bytes-clause-writes
+mirror_entry-returns-in_err-bytes-clause-writes g t c = λ told_tree told. none_writes c.from_residual.result _ _ _ _ c.from_residual.ensures.1 c.in_err-bytes.ensures.only_read.writes
+
+pub mirror_entry-returns-in-Bytes-clause-writes : goal.mirror_entry-returns-in-Bytes-clause-writes
+mirror_entry-returns-in-Bytes-clause-writes g t c = λ told_tree told.
+    let file = read_file told_tree c.args.from.now _ (sym c.in-Bytes.is ∙ c.in_ok-bytes.ensures.answer told_tree told) in
+    writes_same c.put_file.result 1 _ _ _ (one_file c.args.levels told_tree c.args.from.now _ c.if-levels-eq0.false file.file)
+    (file_writes c.put_file.result _ _ _ c.in_ok-bytes.ensures.only_read.writes c.put_file.ensures.writes)
+
+pub mirror_entry-returns-in-NotFile-clause-writes : goal.mirror_entry-returns-in-NotFile-clause-writes
+mirror_entry-returns-in-NotFile-clause-writes g t c = λ told_tree told.
+    let no_file = read_no_file told_tree c.args.from.now (sym c.in-NotFile.is ∙ c.in_ok-bytes.ensures.answer told_tree told) in
+    writes_same c.mirror_folder.result _ _ _ _ (folder_files c.args.levels told_tree c.args.from.now c.if-levels-eq0.false no_file.no_file)
+    (writes_then c.mirror_folder.result _ _ _ _ c.in_ok-bytes.ensures.only_read.writes (c.mirror_folder.ensures.writes told_tree (c.in_ok-bytes.ensures.only_read.told ∙ told)))
+
+pub mirror_entry-returns-in_err-copy-in-TooLong-clause-writes : goal.mirror_entry-returns-in_err-copy-in-TooLong-clause-writes
+mirror_entry-returns-in_err-copy-in-TooLong-clause-writes g t c = λ told_tree told. none_writes c.from_residual-in_err-copy-in-TooLong.result _ _ _ _ c.from_residual-in_err-copy-in-TooLong.ensures.1 c.in_ok-bytes.ensures.only_read.writes
+
+pub mirror_entry-returns-in_ok-copy-in-TooLong-clause-writes : goal.mirror_entry-returns-in_ok-copy-in-TooLong-clause-writes
+mirror_entry-returns-in_ok-copy-in-TooLong-clause-writes g t c = λ told_tree told. omega (arith, c.in_ok-bytes.ensures.only_read.writes)
+
+pub mirror_entry-returns-in-Absent-clause-writes : goal.mirror_entry-returns-in-Absent-clause-writes
+mirror_entry-returns-in-Absent-clause-writes g t c = λ told_tree told. lost_writes c.vanished.result _ _ _ c.vanished.ensures.refused c.in_ok-bytes.ensures.only_read.writes
+
+pub mirror_folder-returns-in_err-list_names-clause-writes : goal.mirror_folder-returns-in_err-list_names-clause-writes
+mirror_folder-returns-in_err-list_names-clause-writes g t c = λ told_tree told. none_writes c.from_residual.result _ _ _ _ c.from_residual.ensures.1 c.in_err-list_names.ensures.only_read.writes
+
+pub mirror_folder-returns-in-None-clause-writes : goal.mirror_folder-returns-in-None-clause-writes
+mirror_folder-returns-in-None-clause-writes g t c = λ told_tree told. lost_writes c.vanished.result _ _ _ c.vanished.ensures.refused c.in_ok-list_names.ensures.only_read.writes
+
+pub mirror_folder-returns-in_err-make_folder-in-Some-clause-writes : goal.mirror_folder-returns-in_err-make_folder-in-Some-clause-writes
+mirror_folder-returns-in_err-make_folder-in-Some-clause-writes g t c = λ told_tree told. none_writes c.from_residual-in_err-make_folder-in-Some.result _ _ _ _ c.from_residual-in_err-make_folder-in-Some.ensures.1
+    (c.make_folder.ensures.writes ∙ c.in_ok-list_names.ensures.only_read.writes)
+
+pub mirror_folder-returns-in_ok-make_folder-in-Some-clause-writes : goal.mirror_folder-returns-in_ok-make_folder-in-Some-clause-writes
+mirror_folder-returns-in_ok-make_folder-in-Some-clause-writes g t c = λ told_tree told.
+    let there = c.in_ok-list_names.ensures.only_read.told ∙ told in
+    let m = told_after (g.T.Tree.meaning c.make_folder.new.tree).told c.make_folder.ensures.tells told_tree there in
+    let listed = subst (λ o. Lists told_tree c.args.from.now c.args.left.now.left c.list_names.new.left.left (Ok o)) c.in-Some.is (c.in_ok-list_names.ensures.answer told_tree told) in
+    writes_same c.mirror_names.result _ _ _ _
+    (names_files_alike c.args.levels c.args.from.now c.as_slice.result.now told_tree m.0 (not_root_behind c.args.from.now c.args.to.now c.requires.apart.0)
+    (source_kept c.args.from.now c.args.to.now told_tree m.0 _ c.requires.apart (c.in_ok-make_folder-in-Some.ensures.made told_tree there m.0 m.1))
+    ∙ ap (λ (names : List (List ℕ)). files_of_names c.args.levels told_tree c.args.from.now names) (c.as_slice.ensures ∙ listed.names_are))
+    (writes_then c.mirror_names.result _ _ _ _ (c.make_folder.ensures.writes ∙ c.in_ok-list_names.ensures.only_read.writes) (c.mirror_names.ensures.writes m.0 m.1))
+
+pub mirror_names-returns-in_err-from_child-clause-writes : goal.mirror_names-returns-in_err-from_child-clause-writes
+mirror_names-returns-in_err-from_child-clause-writes g t c = λ told_tree told. refused_writes c.from_residual.result _ _ _ _ c.from_residual.ensures.1
+    (some_written (λ name. entry_files c.args.levels told_tree (c.args.from.now ++ name ∷ [])) c.args.names.now c.loop-name.name-index _ _ (c.loop-name.invariant.writes told_tree told))
+
+pub mirror_names-returns-in_err-to_child-clause-writes : goal.mirror_names-returns-in_err-to_child-clause-writes
+mirror_names-returns-in_err-to_child-clause-writes g t c = λ told_tree told. refused_writes c.from_residual-in_err-to_child.result _ _ _ _ c.from_residual-in_err-to_child.ensures.1
+    (some_written (λ name. entry_files c.args.levels told_tree (c.args.from.now ++ name ∷ [])) c.args.names.now c.loop-name.name-index _ _ (c.loop-name.invariant.writes told_tree told))
+
+pub mirror_names-returns-in_err-mirror_entry-clause-writes : goal.mirror_names-returns-in_err-mirror_entry-clause-writes
+mirror_names-returns-in_err-mirror_entry-clause-writes g t c = λ told_tree told.
+    let m = told_after (g.T.Tree.meaning c.loop-name.tree).told c.loop-name.invariant.tells told_tree told in
+    let so_far = c.loop-name.invariant.put told_tree told m.0 m.1 in
+    refused_writes c.from_residual-in_err-mirror_entry.result _ _ _ _ c.from_residual-in_err-mirror_entry.ensures.1
+    (item_refused (λ name. entry_files c.args.levels told_tree (c.args.from.now ++ name ∷ [])) c.args.names.now c.loop-name.name-index c.name-item.result
+    (g.T.Tree.meaning c.args.tree.now).writes (g.T.Tree.meaning c.loop-name.tree).writes c.loop-name-test.true c.name-item.is (c.loop-name.invariant.writes told_tree told)
+    (g.T.Tree.meaning c.mirror_entry.new.tree).writes _
+    (child_files c.args.levels c.args.from.now c.args.to.now c.name-item.result told_tree m.0 c.requires.apart so_far)
+    (rw (c.in_ok-from_child.ensures, c.as_slice.ensures) at (c.in_err-mirror_entry.ensures.writes m.0 m.1)))
+
+pub mirror_names-returns-clause-writes : goal.mirror_names-returns-clause-writes
+mirror_names-returns-clause-writes g t c = λ told_tree told.
+    all_written (λ name. entry_files c.args.levels told_tree (c.args.from.now ++ name ∷ [])) c.args.names.now c.loop-name.name-index _ _ (omega (arith, c.loop-name-test.false)) (c.loop-name.invariant.writes told_tree told)

@@ -3,6 +3,7 @@ use Rattle.tree_dev.specs.Device.{OfTold}
 use Rattle.stage_job.specs.Checked.{each_checked, entry_checked}
 use Rattle.stage_job.specs.Copied.{IsInNew, names_entry}
 use Rattle.stage_job.specs.Staged.{KeepsTelling, Puts, Staging}
+use Rattle.stage_job.specs.Written.{after_more, files_of_names}
 use Rattle.stage_job.proofs.mirror.+mirror.Given as goal
 
 -- an entry asks for the folder that it is, and a folder for its names
@@ -24,5 +25,6 @@ invariant-mirror_names-loop-name g l =
       tells : KeepsTelling (meaning l.fn.tree) (meaning l.tree);
       checked : OfTold (meaning l.fn.tree) (λ t. each_checked (entry_checked l.levels t) l.from (drop l.name-index l.names) l.left.left ≡ each_checked (entry_checked l.levels t) l.from l.names l.fn.left.left);
       put : OfTold (meaning l.fn.tree) (λ t. OfTold (meaning l.tree) (Puts l.to (names_entry t l.from (take l.name-index l.names)) t));
+      writes : OfTold (meaning l.fn.tree) (λ t. after_more (meaning l.tree).writes (files_of_names l.levels t l.from (drop l.name-index l.names)) ≡ after_more (meaning l.fn.tree).writes (files_of_names l.levels t l.from l.names));
       entries : l.left.left ≤ l.fn.left.left;
     }

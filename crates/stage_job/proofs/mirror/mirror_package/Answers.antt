@@ -1,4 +1,8 @@
-use Rattle.std.proofs.Common.{ℕ, List, Ok, filter, sym, ap, subst, ◌∙◌}
+use Rattle.tree_dev.proofs.Snoc.{not_root_behind}
+use Rattle.stage_job.proofs.FileCounts.{names_files_alike}
+use Rattle.stage_job.specs.Written.{files_of_names, package_files}
+use Rattle.stage_job.proofs.WriteSteps.{none_writes, writes_same, writes_then}
+use Rattle.std.proofs.Common.{ℕ, List, Ok, filter, sym, ap, subst, ◌∙◌, arith}
 use Rattle.std.specs.Prelude.{IfSome}
 use Rattle.std.proofs.lemmas.Result.{on_ok_weaker}
 use Rattle.tree_dev.specs.Trees.{IsListing}
@@ -8,7 +12,7 @@ use Rattle.stage_job.specs.Checked.{each_checked, entry_checked, folder_checked,
 use Rattle.stage_job.specs.Copied.{Lists}
 use Rattle.stage_job.specs.declared.fault.StageFault.TheVariants as faults
 use Rattle.stage_job.proofs.Below.{staged_in_new}
-use Rattle.stage_job.proofs.CopySteps.{empty_folder}
+use Rattle.stage_job.proofs.CopySteps.{empty_folder, source_kept}
 use Rattle.stage_job.proofs.Exits.{answer_same, fault_answer, memory_exit, passed_exit, refuses_on}
 use Rattle.stage_job.proofs.MirrorSteps.{listed_source, names_checked, package_copied, package_refusal, top_names_there}
 use Rattle.stage_job.proofs.NameLoop.{top_listing}
@@ -95,3 +99,34 @@ returns-in_ok-names-in-Some-clause-copied g c = on_ok_weaker c.mirror_names.resu
     package_copied c.args.from.now c.args.to.now _ t m.0 u c.requires.apart (g.met.T.Tree.tells_trees c.args.tree.now t told) listed.folder (c.as_slice.ensures ∙ listed.names_are)
     (c.in_ok-make_folder-in-Some.ensures.made t there m.0 m.1) (rw (c.as_slice-in-Some.ensures.value, c.in_ok-names-in-Some.ensures) at (copied m.0 m.1 u now)))
     c.mirror_names.ensures.copied
+
+-- ---- calls of write
+
+pub returns-in_err-list_names-clause-writes : goal.returns-in_err-list_names-clause-writes
+returns-in_err-list_names-clause-writes g c = λ t told. none_writes c.from_residual.result _ _ _ _ c.from_residual.ensures.1 c.in_err-list_names.ensures.only_read.writes
+
+pub returns-in_err-copy_of-in-None-clause-writes : goal.returns-in_err-copy_of-in-None-clause-writes
+returns-in_err-copy_of-in-None-clause-writes g c = λ t told. none_writes c.from_residual-in_err-copy_of-in-None.result _ _ _ _ c.from_residual-in_err-copy_of-in-None.ensures.1 c.in_ok-list_names.ensures.only_read.writes
+
+pub returns-in_ok-copy_of-in-None-clause-writes : goal.returns-in_ok-copy_of-in-None-clause-writes
+returns-in_ok-copy_of-in-None-clause-writes g c = λ t told. omega (arith, c.in_ok-list_names.ensures.only_read.writes)
+
+pub returns-in_err-make_folder-in-Some-clause-writes : goal.returns-in_err-make_folder-in-Some-clause-writes
+returns-in_err-make_folder-in-Some-clause-writes g c = λ t told. none_writes c.from_residual-in_err-make_folder-in-Some.result _ _ _ _ c.from_residual-in_err-make_folder-in-Some.ensures.1
+    (c.make_folder.ensures.writes ∙ c.in_ok-list_names.ensures.only_read.writes)
+
+pub returns-in_err-names-in-Some-clause-writes : goal.returns-in_err-names-in-Some-clause-writes
+returns-in_err-names-in-Some-clause-writes g c = λ t told. none_writes c.from_residual-in_err-names-in-Some.result _ _ _ _ c.from_residual-in_err-names-in-Some.ensures.1
+    (c.make_folder.ensures.writes ∙ c.in_ok-list_names.ensures.only_read.writes)
+
+pub returns-in_ok-names-in-Some-clause-writes : goal.returns-in_ok-names-in-Some-clause-writes
+unfolding package_files
+returns-in_ok-names-in-Some-clause-writes g c = λ t told.
+    let there = c.in_ok-list_names.ensures.only_read.told ∙ told in
+    let m = told_after (g.T.Tree.meaning c.make_folder.new.tree).told c.make_folder.ensures.tells t there in
+    let listed = subst (λ o. Lists t c.args.from.now c.args.left.now.left c.list_names.new.left.left (Ok o)) c.in-Some.is (c.in_ok-list_names.ensures.answer t told) in
+    writes_same c.mirror_names.result _ _ _ _
+    (names_files_alike DEPTH c.args.from.now c.as_slice-in-Some.result.now t m.0 (not_root_behind c.args.from.now c.args.to.now c.requires.apart.0)
+    (source_kept c.args.from.now c.args.to.now t m.0 _ c.requires.apart (c.in_ok-make_folder-in-Some.ensures.made t there m.0 m.1))
+    ∙ ap (λ (names : List (List ℕ)). files_of_names DEPTH t c.args.from.now names) (c.as_slice-in-Some.ensures.value ∙ c.in_ok-names-in-Some.ensures ∙ ap (filter passes_top) (c.as_slice.ensures ∙ listed.names_are)))
+    (writes_then c.mirror_names.result _ _ _ _ (c.make_folder.ensures.writes ∙ c.in_ok-list_names.ensures.only_read.writes) (c.mirror_names.ensures.writes m.0 m.1))

@@ -1,4 +1,5 @@
-use Rattle.std.proofs.Common.{ℕ, List, Bool, cond, Ok, Err, sym, ap, ◌∙◌}
+use Rattle.stage_job.proofs.WriteSteps.{file_writes, none_writes}
+use Rattle.std.proofs.Common.{ℕ, List, Bool, cond, Ok, Err, sym, ap, ◌∙◌, arith, refl}
 use Rattle.tree_dev.specs.declared.limits.LimitKind.TheVariants as limits
 use Rattle.stage_job.specs.Faults.{refused}
 use Rattle.stage_job.specs.declared.fault.StageFault.TheVariants as faults
@@ -25,3 +26,14 @@ pub returns-clause-checked : goal.returns-clause-checked
 returns-clause-checked g c = λ t told left.
     answer_same _ _ left c.put_file.result (sym (ap (λ (b : Bool). cond b (Err (faults.Limit (limits.FileBytes c.args.target.now))) (Ok left)) (sym c.is_too_long.ensures ∙ c.if-is_too_long.false)))
     (c.put_file.ensures.answer t told left)
+
+-- ---- calls of write
+
+pub returns-in_err-copy-clause-writes : goal.returns-in_err-copy-clause-writes
+returns-in_err-copy-clause-writes g c = none_writes c.from_residual.result _ _ _ _ c.from_residual.ensures.1 refl
+
+pub returns-then-is_too_long-clause-writes : goal.returns-then-is_too_long-clause-writes
+returns-then-is_too_long-clause-writes g c = omega arith
+
+pub returns-clause-writes : goal.returns-clause-writes
+returns-clause-writes g c = file_writes c.put_file.result _ _ _ refl c.put_file.ensures.writes

@@ -1,3 +1,6 @@
+use Rattle.stage_job.proofs.FileCounts.{leaf_files_kept}
+use Rattle.stage_job.proofs.WriteSteps.{all_written, item_refused, item_written, none_writes, refused_writes}
+use Rattle.stage_job.specs.Written.{after_more, inner_files, leaf_files}
 use Rattle.std.proofs.Common.{◌≡◌, ℕ, ◌+◌, ◌<◌, List, [], ◌∷◌, ◌++◌, false, Ok, take, get_or, length, refl, sym, ap, subst, ◌∙◌, arith}
 use Rattle.std.proofs.lemmas.List.{take_all, take_more}
 use Rattle.tree_dev.specs.Trees.{FileTree}
@@ -35,6 +38,7 @@ loop-part-init g c = record {
   tells = c.make_folder.ensures.tells;
   checked = λ t told. refl;
   put = λ t told u now. no_parts c.args.to.now t u (c.in_ok-make_folder.ensures.made t told u now);
+  writes = λ t told. ap (λ (n : ℕ). after_more n (inner_files t c.args.inner.now)) c.make_folder.ensures.writes;
   entries = omega arith;
 }
 
@@ -86,6 +90,12 @@ loop-part-preserved g c =
           let m = told_after (g.T.Tree.meaning c.loop-part.tree).told c.loop-part.invariant.tells t told in
           next_parts c.args.to.now c.args.inner.now c.loop-part.part-index c.part-item.result t u c.loop-part-test.true c.part-item.is
           (part_put c.args.to.now (take c.loop-part.part-index c.args.inner.now) c.part-item.result t m.0 (c.loop-part.invariant.put t told m.0 m.1) proper apart_all u leaf (c.in_ok-stage_inner.ensures.staged m.0 m.1 u now));
+      writes = λ t told.
+          let m = told_after (g.T.Tree.meaning c.loop-part.tree).told c.loop-part.invariant.tells t told in
+          item_written (λ part. leaf_files t part.from) c.args.inner.now c.loop-part.part-index c.part-item.result
+          (g.T.Tree.meaning c.args.tree.now).writes (g.T.Tree.meaning c.loop-part.tree).writes c.loop-part-test.true c.part-item.is (c.loop-part.invariant.writes t told)
+          (g.T.Tree.meaning c.stage_inner.new.tree).writes _ (leaf_files_kept c.part-item.result.from c.args.to.now t m.0 leaf (c.loop-part.invariant.put t told m.0 m.1))
+          (c.in_ok-stage_inner.ensures.writes m.0 m.1);
       entries = omega (arith, c.stage_inner.ensures.entries, c.loop-part.invariant.entries);
     }
 
@@ -96,3 +106,22 @@ returns-clause-checked g c = λ t told.
 pub returns-clause-staged : goal.returns-clause-staged
 returns-clause-staged g c = λ t told u now.
     subst (λ (ps : List Inner). Puts c.args.to.now (folder_entry t ps) t u) (take_all c.loop-part.part-index c.args.inner.now (omega (arith, c.loop-part-test.false))) (c.loop-part.invariant.put t told u now)
+
+-- ---- calls of write
+
+pub returns-in_err-make_folder-clause-writes : goal.returns-in_err-make_folder-clause-writes
+returns-in_err-make_folder-clause-writes g c = λ t told. none_writes c.from_residual.result _ _ _ _ c.from_residual.ensures.1 c.make_folder.ensures.writes
+
+pub returns-in_err-stage_inner-clause-writes : goal.returns-in_err-stage_inner-clause-writes
+returns-in_err-stage_inner-clause-writes g c = λ t told.
+    let m = told_after (g.T.Tree.meaning c.loop-part.tree).told c.loop-part.invariant.tells t told in
+    let leaf = subst (λ (p : Inner). IsLeafApart p.from c.args.to.now) (sym c.part-item.is) (leaf_at c.args.inner.now c.args.to.now c.loop-part.part-index c.part-item.result c.requires.apart c.loop-part-test.true) in
+    refused_writes c.from_residual-in_err-stage_inner.result _ _ _ _ c.from_residual-in_err-stage_inner.ensures.1
+    (item_refused (λ part. leaf_files t part.from) c.args.inner.now c.loop-part.part-index c.part-item.result
+    (g.T.Tree.meaning c.args.tree.now).writes (g.T.Tree.meaning c.loop-part.tree).writes c.loop-part-test.true c.part-item.is (c.loop-part.invariant.writes t told)
+    (g.T.Tree.meaning c.stage_inner.new.tree).writes _ (leaf_files_kept c.part-item.result.from c.args.to.now t m.0 leaf (c.loop-part.invariant.put t told m.0 m.1))
+    (c.in_err-stage_inner.ensures.writes m.0 m.1))
+
+pub returns-clause-writes : goal.returns-clause-writes
+returns-clause-writes g c = λ t told.
+    all_written (λ part. leaf_files t part.from) c.args.inner.now c.loop-part.part-index _ _ (omega (arith, c.loop-part-test.false)) (c.loop-part.invariant.writes t told)

@@ -1,3 +1,5 @@
+use Rattle.stage_job.proofs.FileCounts.{leaf_files_way}
+use Rattle.stage_job.proofs.WriteSteps.{none_writes, writes_same, writes_then}
 use Rattle.std.proofs.Common.{ℕ, List, ◌++◌, Ok, ap, ◌∙◌}
 use Rattle.std.proofs.lemmas.Result.{on_ok_weaker}
 use Rattle.stage_job.specs.Checked.{leaf_checked}
@@ -49,3 +51,20 @@ returns-clause-staged g c = on_ok_weaker c.stage_leaf.result (λ staged t told u
     let m = told_after (g.T.Tree.meaning c.make_above.new.tree).told c.make_above.ensures.tells t told in
     inner_put c.args.to.now c.args.part.now t m.0 u c.requires.apart (c.in_ok-make_above.ensures.made t told m.0 m.1) (rw c.in_ok-to.ensures at (staged m.0 m.1 u now)))
     c.stage_leaf.ensures.staged
+
+-- ---- calls of write
+
+pub returns-in_err-make_above-clause-writes : goal.returns-in_err-make_above-clause-writes
+returns-in_err-make_above-clause-writes g c = λ t told. none_writes c.from_residual.result _ _ _ _ c.from_residual.ensures.1 c.make_above.ensures.writes
+
+pub returns-in_err-target-clause-writes : goal.returns-in_err-target-clause-writes
+returns-in_err-target-clause-writes g c = λ t told. none_writes c.from_residual-in_err-target.result _ _ _ _ c.from_residual-in_err-target.ensures.1 c.make_above.ensures.writes
+
+pub returns-in_err-to-clause-writes : goal.returns-in_err-to-clause-writes
+returns-in_err-to-clause-writes g c = λ t told. none_writes c.from_residual-in_err-to.result _ _ _ _ c.from_residual-in_err-to.ensures.1 c.make_above.ensures.writes
+
+pub returns-clause-writes : goal.returns-clause-writes
+returns-clause-writes g c = λ t told.
+    let m = told_after (g.T.Tree.meaning c.make_above.new.tree).told c.make_above.ensures.tells t told in
+    writes_same c.stage_leaf.result _ _ _ _ (leaf_files_way c.args.part.now.from c.args.to.now _ t m.0 c.requires.apart (c.in_ok-make_above.ensures.made t told m.0 m.1))
+    (writes_then c.stage_leaf.result _ _ _ _ c.make_above.ensures.writes (c.stage_leaf.ensures.writes m.0 m.1))

@@ -12,3 +12,9 @@ returns-in-Bytes-clause-checked g c = λ t told. rw (c.in-Bytes.is, ← c.as_sli
 
 pub returns-in-Bytes-clause-staged : goal.returns-in-Bytes-clause-staged
 returns-in-Bytes-clause-staged g c = rw (c.in-Bytes.is, ← c.as_slice.ensures) c.stage_bytes.ensures.staged
+
+pub returns-in-Copy-clause-writes : goal.returns-in-Copy-clause-writes
+returns-in-Copy-clause-writes g c = λ t told. rw c.in-Copy.is (c.mirror_package.ensures.writes t told)
+
+pub returns-in-Bytes-clause-writes : goal.returns-in-Bytes-clause-writes
+returns-in-Bytes-clause-writes g c = λ t told. rw c.in-Bytes.is c.stage_bytes.ensures.writes

@@ -1,4 +1,4 @@
-use Rattle.std.proofs.Common.{refl, sym, ◌∙◌}
+use Rattle.std.proofs.Common.{refl, sym, ◌∙◌, arith}
 use Rattle.stage_job.specs.Checked.{part_checked}
 use Rattle.stage_job.specs.Jobs.{part_entry}
 use Rattle.stage_job.proofs.StagingRules.{staging_start}
@@ -40,3 +40,17 @@ returns-in-Gone-clause-checked g c = λ t told. rw c.in-Gone.is refl
 pub returns-in-Gone-clause-staged : goal.returns-in-Gone-clause-staged
 unfolding part_entry
 returns-in-Gone-clause-staged g c = λ t told u now. rw c.in-Gone.is (nothing_put c.args.to.now t u (sym told ∙ now) (c.requires.free t told))
+
+-- ---- calls of write
+
+pub returns-in-Copy-clause-writes : goal.returns-in-Copy-clause-writes
+returns-in-Copy-clause-writes g c = λ t told. rw c.in-Copy.is (c.mirror_package.ensures.writes t told)
+
+pub returns-in-Bytes-clause-writes : goal.returns-in-Bytes-clause-writes
+returns-in-Bytes-clause-writes g c = λ t told. rw c.in-Bytes.is c.stage_bytes.ensures.writes
+
+pub returns-in-Folder-clause-writes : goal.returns-in-Folder-clause-writes
+returns-in-Folder-clause-writes g c = λ t told. rw (c.in-Folder.is, ← c.as_slice-in-Folder.ensures) (c.stage_folder.ensures.writes t told)
+
+pub returns-in-Gone-clause-writes : goal.returns-in-Gone-clause-writes
+returns-in-Gone-clause-writes g c = λ t told. rw c.in-Gone.is (omega arith)

@@ -14,6 +14,7 @@ loop-part-init g c = record {
   staging = staging_start;
   tells = refl;
   made = λ t told u now. subst (λ (v : FileTree). PutsParents c.args.project.now [] t v) (same_some t u (sym told ∙ now)) (no_parents_yet c.args.project.now t);
+  writes = refl;
 }
 
 pub make_above-requires : goal.make_above-requires
@@ -40,6 +41,7 @@ loop-part-preserved g c =
           let m = told_after (g.T.Tree.meaning c.loop-part.tree).told c.loop-part.invariant.tells t told in
           parents_more c.args.project.now c.args.parts.now c.loop-part.part-index c.part-item.result t m.0 c.requires.parts c.loop-part-test.true c.part-item.is (c.requires.project t told) (c.requires.parents t told)
           (c.loop-part.invariant.made t told m.0 m.1) u (c.in_ok-make_above.ensures.made m.0 m.1 u now);
+      writes = c.make_above.ensures.writes ∙ c.loop-part.invariant.writes;
     }
 
 pub returns-in_err-make_above-clause-staging : goal.returns-in_err-make_above-clause-staging

@@ -1,4 +1,4 @@
-use Rattle.std.proofs.Common.{false, take}
+use Rattle.std.proofs.Common.{◌≡◌, false, take}
 use Rattle.tree_dev.specs.Device.{OfTold}
 use Rattle.stage_job.specs.Staged.{KeepsTelling, Staging}
 use Rattle.stage_job.specs.Staging.{PutsParents}
@@ -12,4 +12,5 @@ invariant-loop-part g l =
       staging : Staging l.project (meaning l.fn.tree) (meaning l.tree) false;
       tells : KeepsTelling (meaning l.fn.tree) (meaning l.tree);
       made : OfTold (meaning l.fn.tree) (λ t. OfTold (meaning l.tree) (PutsParents l.project (take l.part-index l.parts) t));
+      writes : (meaning l.tree).writes ≡ (meaning l.fn.tree).writes;
     }

@@ -1,4 +1,5 @@
-use Rattle.std.proofs.Common.{◌≡◌, ℕ, List, [], ◌∷◌, ◌++◌, ap, ◌∙◌, arith}
+use Rattle.stage_job.proofs.WriteSteps.{none_writes}
+use Rattle.std.proofs.Common.{◌≡◌, ℕ, List, [], ◌∷◌, ◌++◌, ap, ◌∙◌, arith, refl}
 use Rattle.path_name.specs.Decimals.{decimal_text}
 use Rattle.path_name.specs.Paths.{is_segment}
 use Rattle.stage_job.proofs.Below.{in_new_below}
@@ -40,3 +41,17 @@ returns-clause-checked g c = λ t told. rw c.in_ok-target.ensures at (c.stage_pa
 
 pub returns-clause-staged : goal.returns-clause-staged
 returns-clause-staged g c = rw (to_is g (goal.at.returns-clause-staged g c).In_ok-to) at c.stage_part.ensures.staged
+
+-- ---- calls of write
+
+pub returns-in_err-name-clause-writes : goal.returns-in_err-name-clause-writes
+returns-in_err-name-clause-writes g c = λ t told. none_writes c.from_residual.result _ _ _ _ c.from_residual.ensures.1 refl
+
+pub returns-in_err-to-clause-writes : goal.returns-in_err-to-clause-writes
+returns-in_err-to-clause-writes g c = λ t told. none_writes c.from_residual-in_err-to.result _ _ _ _ c.from_residual-in_err-to.ensures.1 refl
+
+pub returns-in_err-target-clause-writes : goal.returns-in_err-target-clause-writes
+returns-in_err-target-clause-writes g c = λ t told. none_writes c.from_residual-in_err-target.result _ _ _ _ c.from_residual-in_err-target.ensures.1 refl
+
+pub returns-clause-writes : goal.returns-clause-writes
+returns-clause-writes g c = λ t told. c.stage_part.ensures.writes t told

@@ -1,3 +1,5 @@
+use Rattle.stage_job.proofs.FileCounts.{job_files_alike}
+use Rattle.stage_job.proofs.WriteSteps.{files_all, files_no_more, none_writes, refused_writes}
 use Rattle.std.proofs.Common.{◌≡◌, Ok, sym, subst, ◌∙◌}
 use Rattle.tree_dev.specs.Trees.{FileTree}
 use Rattle.tree_dev.specs.Steady.{EachImage}
@@ -102,3 +104,39 @@ returns-in_err-make_parents-clause-exact g c = λ t told.
     let w = told_after (g.T.Tree.meaning c.stage_parts.new.tree).told c.stage_parts.ensures.tells v.0 v.1 in
     fault_answer _ _ c.from_residual-in_err-make_parents.result c.in_err-make_parents.field-0.0 c.from_residual-in_err-make_parents.ensures.1
     (refuses_on c.in_err-make_parents.field-0.0 (Ok 0) _ (λ e. absurd cc) (c.in_err-make_parents.ensures.answer w.0 w.1 0))
+
+-- ---- calls of write
+
+pub returns-in_err-new-clause-writes : goal.returns-in_err-new-clause-writes
+returns-in_err-new-clause-writes g c = λ t told. none_writes c.from_residual.result _ _ _ _ c.from_residual.ensures.1 c.make_work_folders.ensures.writes
+
+pub returns-in_err-stage_parts-clause-writes : goal.returns-in_err-stage_parts-clause-writes
+returns-in_err-stage_parts-clause-writes g c = λ t told.
+    let v = told_after (g.T.Tree.meaning c.make_work_folders.new.tree).told c.make_work_folders.ensures.tells t told in
+    let made = c.in_ok-new.ensures.made t told v.0 v.1 in
+    let same = job_files_alike c.args.project.now t v.0 (sources_alike c.args.project.now t made.between v.0 made.new made.old) _ c.requires.parts in
+    refused_writes c.from_residual-in_err-stage_parts.result _ _ _ _ c.from_residual-in_err-stage_parts.ensures.1
+    (files_no_more _ _ _ _ _ same c.make_work_folders.ensures.writes (c.in_err-stage_parts.ensures.writes v.0 v.1))
+
+pub returns-in_err-make_parents-clause-writes : goal.returns-in_err-make_parents-clause-writes
+returns-in_err-make_parents-clause-writes g c = λ t told.
+    let v = told_after (g.T.Tree.meaning c.make_work_folders.new.tree).told c.make_work_folders.ensures.tells t told in
+    let made = c.in_ok-new.ensures.made t told v.0 v.1 in
+    let same = job_files_alike c.args.project.now t v.0 (sources_alike c.args.project.now t made.between v.0 made.new made.old) _ c.requires.parts in
+    refused_writes c.from_residual-in_err-make_parents.result _ _ _ _ c.from_residual-in_err-make_parents.ensures.1
+    (files_all _ _ _ _ _ _ same c.make_work_folders.ensures.writes (c.in_ok-stage_parts.ensures.writes v.0 v.1) c.make_parents.ensures.writes).1
+
+pub returns-in_err-barrier-clause-writes : goal.returns-in_err-barrier-clause-writes
+returns-in_err-barrier-clause-writes g c = λ t told.
+    let v = told_after (g.T.Tree.meaning c.make_work_folders.new.tree).told c.make_work_folders.ensures.tells t told in
+    let made = c.in_ok-new.ensures.made t told v.0 v.1 in
+    let same = job_files_alike c.args.project.now t v.0 (sources_alike c.args.project.now t made.between v.0 made.new made.old) _ c.requires.parts in
+    refused_writes c.from_residual-in_err-barrier.result _ _ _ _ c.from_residual-in_err-barrier.ensures.1
+    (files_all _ _ _ _ _ _ same c.make_work_folders.ensures.writes (c.in_ok-stage_parts.ensures.writes v.0 v.1) (c.barrier.ensures.counts ∙ c.make_parents.ensures.writes)).1
+
+pub returns-clause-writes : goal.returns-clause-writes
+returns-clause-writes g c = λ t told.
+    let v = told_after (g.T.Tree.meaning c.make_work_folders.new.tree).told c.make_work_folders.ensures.tells t told in
+    let made = c.in_ok-new.ensures.made t told v.0 v.1 in
+    let same = job_files_alike c.args.project.now t v.0 (sources_alike c.args.project.now t made.between v.0 made.new made.old) _ c.requires.parts in
+    (files_all _ _ _ _ _ _ same c.make_work_folders.ensures.writes (c.in_ok-stage_parts.ensures.writes v.0 v.1) (c.barrier.ensures.counts ∙ c.make_parents.ensures.writes)).0
