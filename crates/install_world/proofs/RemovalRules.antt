@@ -30,20 +30,21 @@ use Rattle.install_world.specs.Removals.{OnlyRemoved, Removes, WritesNone, fault
 -- ---- calls that write nothing
 
 pub writes_none_start : (m : Meaning) → WritesNone m m false
-writes_none_start m = record { tells = refl; whole = λ whole. whole; faults = omega arith; cause = λ wrong. absurd cc }
+writes_none_start m = record { tells = refl; whole = λ whole. whole; faults = omega arith; writes = refl; cause = λ wrong. absurd cc }
 
 pub writes_none_on : (a b d : Meaning) (failed : Bool) → WritesNone b d failed → WritesNone a b false → WritesNone a d failed
 writes_none_on a b d failed second first = record {
   tells = second.tells ∙ first.tells;
   whole = λ whole. second.whole (first.whole whole);
   faults = omega (arith, first.faults, second.faults);
+  writes = second.writes ∙ first.writes;
   cause = λ f. let rose = second.cause f in let le = first.faults in omega (arith, rose, le);
 }
 
 pub writes_none_read : (a b d : Meaning) (failed : Bool) → OnlyRead b d failed → WritesNone a b false → WritesNone a d failed
 writes_none_read a b d failed read first =
     writes_none_on a b d failed
-    (record { tells = ap is_some read.told; whole = whole_then_read b d failed read; faults = read.faults; cause = read.cause })
+    (record { tells = ap is_some read.told; whole = whole_then_read b d failed read; faults = read.faults; writes = read.writes; cause = read.cause })
     first
 
 still_told : (t : Option FileTree) (change : Change) → is_some (option_map (λ (u : FileTree). changed u change) t) ≡ is_some t
@@ -58,11 +59,11 @@ change_faults : (b d : Meaning) (change : Change) → MayAdd b d change → b.fa
 change_faults b d change (inl stays) = stays.faults
 change_faults b d change (inr adds) = adds.adds.faults
 
-pub writes_none_change : (a b d : Meaning) (change : Change) (failed : Bool) → MayAdd b d change → is_write change ≡ false → (IsTrue failed → Rose b.faults d.faults)
+pub writes_none_change : (a b d : Meaning) (change : Change) (failed : Bool) → MayAdd b d change → is_write change ≡ false → d.writes ≡ b.writes → (IsTrue failed → Rose b.faults d.faults)
     → WritesNone a b false → WritesNone a d failed
-writes_none_change a b d change failed may quiet cause first =
+writes_none_change a b d change failed may quiet same cause first =
     writes_none_on a b d failed
-    (record { tells = change_tells b d change may; whole = whole_on b d change may quiet; faults = change_faults b d change may; cause = cause })
+    (record { tells = change_tells b d change may; whole = whole_on b d change may quiet; faults = change_faults b d change may; writes = same; cause = cause })
     first
 
 settle_tells : (b d : Meaning) → MaySettle b d → is_some d.told ≡ is_some b.told
@@ -73,10 +74,10 @@ settle_faults : (b d : Meaning) → MaySettle b d → b.faults ≤ d.faults
 settle_faults b d (inl stays) = stays.faults
 settle_faults b d (inr settles) = settles.faults
 
-pub writes_none_barrier : (a b d : Meaning) (failed : Bool) → MaySettle b d → (IsTrue failed → Rose b.faults d.faults) → WritesNone a b false → WritesNone a d failed
-writes_none_barrier a b d failed may cause first =
+pub writes_none_barrier : (a b d : Meaning) (failed : Bool) → MaySettle b d → d.writes ≡ b.writes → (IsTrue failed → Rose b.faults d.faults) → WritesNone a b false → WritesNone a d failed
+writes_none_barrier a b d failed may same cause first =
     writes_none_on a b d failed
-    (record { tells = settle_tells b d may; whole = whole_then_barrier b d may; faults = settle_faults b d may; cause = cause })
+    (record { tells = settle_tells b d may; whole = whole_then_barrier b d may; faults = settle_faults b d may; writes = same; cause = cause })
     first
 
 -- ---- trees without some entries

@@ -21,12 +21,13 @@ is_device_fault (Err (faults.Vanished at)) = false
 is_device_fault (Err faults.DeviceFault) = true
 is_device_fault (Err faults.OutOfMemory) = false
 
--- Calls that write no file lie between: whether a tree is told stays, no write is pending where none was, and the
--- count of faults has not fallen. failed says whether the last call failed: then it rose.
+-- Calls that write no file lie between: whether a tree is told stays, no write is pending where none was, the count of
+-- calls of `write` is as it was, and that of faults has not fallen. failed says whether the last call failed: then it rose.
 pub record WritesNone (before now : Meaning) (failed : Bool) : Type 0 where
   pub tells : is_some now.told ≡ is_some before.told
   pub whole : IsWhole before.disks.now → IsWhole now.disks.now
   pub faults : before.faults ≤ now.faults
+  pub writes : now.writes ≡ before.writes
   pub cause : IsTrue failed → Rose before.faults now.faults
 
 -- Each entry is as it was, or lay at or below a path and is gone.

@@ -18,7 +18,7 @@ use Rattle.install_world.proofs.ending.remove_journal.Goals as goal
 pub returns-in_err-barrier-clause-writes_none : goal.returns-in_err-barrier-clause-writes_none
 returns-in_err-barrier-clause-writes_none g c =
     let p = err_from_is_err_and c.from_residual.result c.from_residual.ensures.1 in
-    rw p.1 (writes_none_barrier _ _ _ _ c.barrier.ensures.moments (λ failed. c.in_err-barrier.ensures.cause) (writes_none_start _))
+    rw p.1 (writes_none_barrier _ _ _ _ c.barrier.ensures.moments c.barrier.ensures.counts (λ failed. c.in_err-barrier.ensures.cause) (writes_none_start _))
 
 pub returns-in_err-barrier-clause-through : goal.returns-in_err-barrier-clause-through
 returns-in_err-barrier-clause-through g c = λ t told whole way is done each.
@@ -27,8 +27,8 @@ returns-in_err-barrier-clause-through g c = λ t told whole way is done each.
 pub returns-in_err-remove_file-clause-writes_none : goal.returns-in_err-remove_file-clause-writes_none
 returns-in_err-remove_file-clause-writes_none g c =
     let p = err_from_is_err_and c.from_residual-in_err-remove_file.result c.from_residual-in_err-remove_file.ensures.1 in
-    rw p.1 (writes_none_change _ _ _ _ _ c.remove_file.ensures.moments refl (λ failed. c.in_err-remove_file.ensures.cause)
-    (writes_none_barrier _ _ _ _ c.barrier.ensures.moments (λ failed. absurd cc) (writes_none_start _)))
+    rw p.1 (writes_none_change _ _ _ _ _ c.remove_file.ensures.moments refl c.remove_file.ensures.counts (λ failed. c.in_err-remove_file.ensures.cause)
+    (writes_none_barrier _ _ _ _ c.barrier.ensures.moments c.barrier.ensures.counts (λ failed. absurd cc) (writes_none_start _)))
 
 pub returns-in_err-remove_file-clause-through : goal.returns-in_err-remove_file-clause-through
 returns-in_err-remove_file-clause-through g c = λ t told whole way is done each.
@@ -38,9 +38,9 @@ returns-in_err-remove_file-clause-through g c = λ t told whole way is done each
 pub returns-in_err-barrier-in-Done-clause-writes_none : goal.returns-in_err-barrier-in-Done-clause-writes_none
 returns-in_err-barrier-in-Done-clause-writes_none g c =
     let p = err_from_is_err_and c.from_residual-in_err-barrier-in-Done.result c.from_residual-in_err-barrier-in-Done.ensures.1 in
-    rw p.1 (writes_none_barrier _ _ _ _ c.barrier-in-Done.ensures.moments (λ failed. c.in_err-barrier-in-Done.ensures.cause)
-    (writes_none_change _ _ _ _ _ c.remove_file.ensures.moments refl (λ failed. absurd cc)
-    (writes_none_barrier _ _ _ _ c.barrier.ensures.moments (λ failed. absurd cc) (writes_none_start _))))
+    rw p.1 (writes_none_barrier _ _ _ _ c.barrier-in-Done.ensures.moments c.barrier-in-Done.ensures.counts (λ failed. c.in_err-barrier-in-Done.ensures.cause)
+    (writes_none_change _ _ _ _ _ c.remove_file.ensures.moments refl c.remove_file.ensures.counts (λ failed. absurd cc)
+    (writes_none_barrier _ _ _ _ c.barrier.ensures.moments c.barrier.ensures.counts (λ failed. absurd cc) (writes_none_start _))))
 
 pub returns-in_err-barrier-in-Done-clause-through : goal.returns-in_err-barrier-in-Done-clause-through
 returns-in_err-barrier-in-Done-clause-through g c = λ t told whole way is done each.
@@ -50,9 +50,9 @@ returns-in_err-barrier-in-Done-clause-through g c = λ t told whole way is done 
 
 pub returns-in_ok-barrier-in-Done-clause-writes_none : goal.returns-in_ok-barrier-in-Done-clause-writes_none
 returns-in_ok-barrier-in-Done-clause-writes_none g c =
-    writes_none_barrier _ _ _ _ c.barrier-in-Done.ensures.moments (λ failed. absurd cc)
-    (writes_none_change _ _ _ _ _ c.remove_file.ensures.moments refl (λ failed. absurd cc)
-    (writes_none_barrier _ _ _ _ c.barrier.ensures.moments (λ failed. absurd cc) (writes_none_start _)))
+    writes_none_barrier _ _ _ _ c.barrier-in-Done.ensures.moments c.barrier-in-Done.ensures.counts (λ failed. absurd cc)
+    (writes_none_change _ _ _ _ _ c.remove_file.ensures.moments refl c.remove_file.ensures.counts (λ failed. absurd cc)
+    (writes_none_barrier _ _ _ _ c.barrier.ensures.moments c.barrier.ensures.counts (λ failed. absurd cc) (writes_none_start _)))
 
 pub returns-in_ok-barrier-in-Done-clause-through : goal.returns-in_ok-barrier-in-Done-clause-through
 returns-in_ok-barrier-in-Done-clause-through g c = λ t told whole way is done each.
@@ -65,8 +65,8 @@ returns-in_ok-barrier-in-Done-clause-settled g c = λ ended t told way is done o
     let first = g.T.Tree.meaning c.args.tree.now in
     let second = g.T.Tree.meaning c.barrier.new.self in
     let third = g.T.Tree.meaning c.remove_file.new.self in
-    let settled = writes_none_barrier first first second false c.barrier.ensures.moments (λ failed. absurd cc) (writes_none_start first) in
-    let removed = writes_none_change first second third (FileRemoved c.args.journal.now) false c.remove_file.ensures.moments refl (λ failed. absurd cc) settled in
+    let settled = writes_none_barrier first first second false c.barrier.ensures.moments c.barrier.ensures.counts (λ failed. absurd cc) (writes_none_start first) in
+    let removed = writes_none_change first second third (FileRemoved c.args.journal.now) false c.remove_file.ensures.moments refl c.remove_file.ensures.counts (λ failed. absurd cc) settled in
     let now = told_still first second t settled.tells told in
     let then = told_still first third t removed.tells told in
     ends_new way first second t (g.met.T.Tree.tells_its_disk c.args.tree.now t told) c.barrier.ensures.moments third _ c.args.journal.now
@@ -75,8 +75,8 @@ returns-in_ok-barrier-in-Done-clause-settled g c = λ ended t told way is done o
 
 pub returns-in-Misplaced-clause-writes_none : goal.returns-in-Misplaced-clause-writes_none
 returns-in-Misplaced-clause-writes_none g c =
-    writes_none_change _ _ _ _ _ c.remove_file.ensures.moments refl (λ failed. absurd cc)
-    (writes_none_barrier _ _ _ _ c.barrier.ensures.moments (λ failed. absurd cc) (writes_none_start _))
+    writes_none_change _ _ _ _ _ c.remove_file.ensures.moments refl c.remove_file.ensures.counts (λ failed. absurd cc)
+    (writes_none_barrier _ _ _ _ c.barrier.ensures.moments c.barrier.ensures.counts (λ failed. absurd cc) (writes_none_start _))
 
 pub returns-in-Misplaced-clause-through : goal.returns-in-Misplaced-clause-through
 returns-in-Misplaced-clause-through g c = λ t told whole way is done each.

@@ -52,7 +52,7 @@ returns-then-free-clause-fits g c = λ t told way number target are part on ther
 
 pub returns-clause-writes_none : goal.returns-clause-writes_none
 returns-clause-writes_none g c =
-    writes_none_change _ _ _ _ _ c.rename.ensures.moments refl (cause_of c.rename.result c.rename.ensures.cause)
+    writes_none_change _ _ _ _ _ c.rename.ensures.moments refl c.rename.ensures.counts (cause_of c.rename.result c.rename.ensures.cause)
     (writes_none_read _ _ _ _ c.in_ok-kind.ensures.only_read (writes_none_start _))
 
 pub returns-clause-moves : goal.returns-clause-moves

@@ -17,7 +17,7 @@ returns-in-Misplaced-clause-through g c = λ t told whole way number target are 
 
 pub returns-in-Done-clause-writes_none : goal.returns-in-Done-clause-writes_none
 returns-in-Done-clause-writes_none g c =
-    writes_none_change _ _ _ _ _ c.rename.ensures.moments refl (cause_of c.rename.result c.rename.ensures.cause) c.in_ok-make_way.ensures.writes_none
+    writes_none_change _ _ _ _ _ c.rename.ensures.moments refl c.rename.ensures.counts (cause_of c.rename.result c.rename.ensures.cause) c.in_ok-make_way.ensures.writes_none
 
 pub returns-in-Done-clause-moves : goal.returns-in-Done-clause-moves
 returns-in-Done-clause-moves g c = places_put c.args.places.now _ _ _ c.rename.ensures.moments c.make_way.ensures.moves

@@ -42,7 +42,7 @@ returns-in-Absent-clause-done g c = λ done t told project number target are.
 
 pub returns-in_default-clause-writes_none : goal.returns-in_default-clause-writes_none
 returns-in_default-clause-writes_none g c =
-    writes_none_change _ _ _ _ _ c.rename.ensures.moments refl (cause_of c.rename.result c.rename.ensures.cause)
+    writes_none_change _ _ _ _ _ c.rename.ensures.moments refl c.rename.ensures.counts (cause_of c.rename.result c.rename.ensures.cause)
     (writes_none_read _ _ _ _ c.in_ok-stat.ensures.only_read (writes_none_start _))
 
 pub returns-in_default-clause-moves : goal.returns-in_default-clause-moves

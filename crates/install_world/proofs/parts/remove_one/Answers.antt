@@ -8,13 +8,13 @@ use Rattle.install_world.proofs.parts.remove_one.Goals as goal
 pub returns-in_err-remove_file-clause-writes_none : goal.returns-in_err-remove_file-clause-writes_none
 returns-in_err-remove_file-clause-writes_none g c =
     let p = err_from_is_err_and c.from_residual.result c.from_residual.ensures.1 in
-    rw (p.1, p.2) (writes_none_change _ _ _ _ _ c.remove_file.ensures.moments refl (λ failed. c.in_err-remove_file.ensures.cause) (writes_none_start _))
+    rw (p.1, p.2) (writes_none_change _ _ _ _ _ c.remove_file.ensures.moments refl c.remove_file.ensures.counts (λ failed. c.in_err-remove_file.ensures.cause) (writes_none_start _))
 
 pub returns-in_err-remove_file-clause-removes : goal.returns-in_err-remove_file-clause-removes
 returns-in_err-remove_file-clause-removes g c = removes_file _ _ _ _ _ c.remove_file.ensures.moments (within_itself c.args.at.now) (removes_start _ _)
 
 pub returns-in-Done-clause-writes_none : goal.returns-in-Done-clause-writes_none
-returns-in-Done-clause-writes_none g c = writes_none_change _ _ _ _ _ c.remove_file.ensures.moments refl (λ failed. absurd cc) (writes_none_start _)
+returns-in-Done-clause-writes_none g c = writes_none_change _ _ _ _ _ c.remove_file.ensures.moments refl c.remove_file.ensures.counts (λ failed. absurd cc) (writes_none_start _)
 
 pub returns-in-Done-clause-removes : goal.returns-in-Done-clause-removes
 returns-in-Done-clause-removes g c = removes_file _ _ _ _ _ c.remove_file.ensures.moments (within_itself c.args.at.now) (removes_start _ _)
@@ -22,13 +22,13 @@ returns-in-Done-clause-removes g c = removes_file _ _ _ _ _ c.remove_file.ensure
 pub returns-in_err-copy-in-Misplaced-clause-writes_none : goal.returns-in_err-copy-in-Misplaced-clause-writes_none
 returns-in_err-copy-in-Misplaced-clause-writes_none g c =
     let p = err_from_is_err_and c.from_residual-in_err-copy-in-Misplaced.result c.from_residual-in_err-copy-in-Misplaced.ensures.1 in
-    rw (p.1, p.2) (writes_none_change _ _ _ _ _ c.remove_file.ensures.moments refl (λ failed. absurd cc) (writes_none_start _))
+    rw (p.1, p.2) (writes_none_change _ _ _ _ _ c.remove_file.ensures.moments refl c.remove_file.ensures.counts (λ failed. absurd cc) (writes_none_start _))
 
 pub returns-in_err-copy-in-Misplaced-clause-removes : goal.returns-in_err-copy-in-Misplaced-clause-removes
 returns-in_err-copy-in-Misplaced-clause-removes g c = removes_file _ _ _ _ _ c.remove_file.ensures.moments (within_itself c.args.at.now) (removes_start _ _)
 
 pub returns-in_ok-copy-in-Misplaced-clause-writes_none : goal.returns-in_ok-copy-in-Misplaced-clause-writes_none
-returns-in_ok-copy-in-Misplaced-clause-writes_none g c = writes_none_change _ _ _ _ _ c.remove_file.ensures.moments refl (λ failed. absurd cc) (writes_none_start _)
+returns-in_ok-copy-in-Misplaced-clause-writes_none g c = writes_none_change _ _ _ _ _ c.remove_file.ensures.moments refl c.remove_file.ensures.counts (λ failed. absurd cc) (writes_none_start _)
 
 pub returns-in_ok-copy-in-Misplaced-clause-removes : goal.returns-in_ok-copy-in-Misplaced-clause-removes
 returns-in_ok-copy-in-Misplaced-clause-removes g c = removes_file _ _ _ _ _ c.remove_file.ensures.moments (within_itself c.args.at.now) (removes_start _ _)

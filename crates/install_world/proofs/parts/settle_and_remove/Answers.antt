@@ -12,7 +12,7 @@ use Rattle.install_world.proofs.parts.settle_and_remove.Goals as goal
 pub returns-in_err-barrier-clause-writes_none : goal.returns-in_err-barrier-clause-writes_none
 returns-in_err-barrier-clause-writes_none g c =
     let p = err_from_is_err_and c.from_residual.result c.from_residual.ensures.1 in
-    rw (p.1, p.2) (writes_none_barrier _ _ _ _ c.barrier.ensures.moments (λ failed. c.in_err-barrier.ensures.cause) (writes_none_start _))
+    rw (p.1, p.2) (writes_none_barrier _ _ _ _ c.barrier.ensures.moments c.barrier.ensures.counts (λ failed. c.in_err-barrier.ensures.cause) (writes_none_start _))
 
 pub returns-in_err-barrier-clause-removes : goal.returns-in_err-barrier-clause-removes
 returns-in_err-barrier-clause-removes g c = removed_barrier c.args.at.now _ _ c.barrier.ensures.moments
@@ -24,7 +24,7 @@ returns-in_err-barrier-clause-through g c = λ t told way keeps each.
 pub returns-clause-writes_none : goal.returns-clause-writes_none
 returns-clause-writes_none g c =
     writes_none_on _ _ _ _ c.remove_entry.ensures.writes_none
-    (writes_none_barrier _ _ _ _ c.barrier.ensures.moments (λ failed. absurd cc) (writes_none_start _))
+    (writes_none_barrier _ _ _ _ c.barrier.ensures.moments c.barrier.ensures.counts (λ failed. absurd cc) (writes_none_start _))
 
 pub returns-clause-removes : goal.returns-clause-removes
 returns-clause-removes g c =

@@ -40,7 +40,7 @@ returns-in_err-journal-clause-bad g c = λ place is.
 pub returns-in_err-barrier-clause-writes_none : goal.returns-in_err-barrier-clause-writes_none
 returns-in_err-barrier-clause-writes_none g c =
     let p = err_from_is_err_and c.from_residual-in_err-barrier.result c.from_residual-in_err-barrier.ensures.1 in
-    rw (p.1, p.2) (writes_none_barrier _ _ _ _ c.barrier.ensures.moments (λ failed. c.in_err-barrier.ensures.cause) (writes_none_start _))
+    rw (p.1, p.2) (writes_none_barrier _ _ _ _ c.barrier.ensures.moments c.barrier.ensures.counts (λ failed. c.in_err-barrier.ensures.cause) (writes_none_start _))
 
 pub returns-in_err-barrier-clause-through : goal.returns-in_err-barrier-clause-through
 returns-in_err-barrier-clause-through g c = λ t told surroundings old new is_work is_at there small each.
@@ -50,7 +50,7 @@ pub returns-in_err-finish_journal-clause-writes_none : goal.returns-in_err-finis
 returns-in_err-finish_journal-clause-writes_none g c =
     let p = err_from_is_err_and c.from_residual-in_err-finish_journal.result c.from_residual-in_err-finish_journal.ensures.1 in
     rw (p.1, p.2) (writes_none_parting (Unit {0}) Recovered _ _ c.in_err-finish_journal.field-0.0 (writes_none_on _ _ _ _ c.in_err-finish_journal.ensures.writes_none
-    (writes_none_barrier _ _ _ _ c.barrier.ensures.moments (λ failed. absurd cc) (writes_none_start _))))
+    (writes_none_barrier _ _ _ _ c.barrier.ensures.moments c.barrier.ensures.counts (λ failed. absurd cc) (writes_none_start _))))
 
 pub returns-in_err-finish_journal-clause-through : goal.returns-in_err-finish_journal-clause-through
 returns-in_err-finish_journal-clause-through g c = λ t told surroundings old new is_work is_at there small each.
@@ -75,12 +75,12 @@ returns-in_err-remove_folder-clause-writes_none g c =
     let p = err_from_is_err_and c.from_residual-in_err-remove_folder.result c.from_residual-in_err-remove_folder.ensures.1 in
     rw (p.1, p.2) (writes_none_removing (Unit {0}) Recovered _ _ c.in_err-remove_folder.field-0.0 (writes_none_on _ _ _ _ c.in_err-remove_folder.ensures.writes_none
     (writes_none_on _ _ _ _ c.in_ok-finish_journal.ensures.writes_none
-    (writes_none_barrier _ _ _ _ c.barrier.ensures.moments (λ failed. absurd cc) (writes_none_start _)))))
+    (writes_none_barrier _ _ _ _ c.barrier.ensures.moments c.barrier.ensures.counts (λ failed. absurd cc) (writes_none_start _)))))
 
 pub returns-clause-writes_none : goal.returns-clause-writes_none
 returns-clause-writes_none g c =
     writes_none_on _ _ _ _ c.in_ok-remove_folder.ensures.writes_none (writes_none_on _ _ _ _ c.in_ok-finish_journal.ensures.writes_none
-    (writes_none_barrier _ _ _ _ c.barrier.ensures.moments (λ failed. absurd cc) (writes_none_start _)))
+    (writes_none_barrier _ _ _ _ c.barrier.ensures.moments c.barrier.ensures.counts (λ failed. absurd cc) (writes_none_start _)))
 
 pub returns-in_err-remove_folder-clause-through : goal.returns-in_err-remove_folder-clause-through
 returns-in_err-remove_folder-clause-through g c = λ t told surroundings old new is_work is_at there small each.

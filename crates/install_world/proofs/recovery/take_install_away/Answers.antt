@@ -17,7 +17,7 @@ use Rattle.install_world.proofs.recovery.take_install_away.Goals as goal
 pub returns-in_err-barrier-clause-writes_none : goal.returns-in_err-barrier-clause-writes_none
 returns-in_err-barrier-clause-writes_none g c =
     let p = err_from_is_err_and c.from_residual.result c.from_residual.ensures.1 in
-    rw (p.1, p.2) (writes_none_barrier _ _ _ _ c.barrier.ensures.moments (λ failed. c.in_err-barrier.ensures.cause) (writes_none_start _))
+    rw (p.1, p.2) (writes_none_barrier _ _ _ _ c.barrier.ensures.moments c.barrier.ensures.counts (λ failed. c.in_err-barrier.ensures.cause) (writes_none_start _))
 
 pub returns-in_err-barrier-clause-through : goal.returns-in_err-barrier-clause-through
 returns-in_err-barrier-clause-through g c = λ t told project surroundings old new is none each.
@@ -27,7 +27,7 @@ pub returns-in_err-remove_folder-clause-writes_none : goal.returns-in_err-remove
 returns-in_err-remove_folder-clause-writes_none g c =
     let p = err_from_is_err_and c.from_residual-in_err-remove_folder.result c.from_residual-in_err-remove_folder.ensures.1 in
     rw (p.1, p.2) (writes_none_removing (Unit {0}) Recovered _ _ c.in_err-remove_folder.field-0.0 (writes_none_on _ _ _ _ c.in_err-remove_folder.ensures.writes_none
-    (writes_none_barrier _ _ _ _ c.barrier.ensures.moments (λ failed. absurd cc) (writes_none_start _))))
+    (writes_none_barrier _ _ _ _ c.barrier.ensures.moments c.barrier.ensures.counts (λ failed. absurd cc) (writes_none_start _))))
 
 pub returns-in_err-remove_folder-clause-through : goal.returns-in_err-remove_folder-clause-through
 returns-in_err-remove_folder-clause-through g c = λ t told project surroundings old new is none each.
@@ -39,7 +39,7 @@ returns-in_err-remove_folder-clause-through g c = λ t told project surroundings
 
 pub returns-clause-writes_none : goal.returns-clause-writes_none
 returns-clause-writes_none g c =
-    writes_none_on _ _ _ _ c.in_ok-remove_folder.ensures.writes_none (writes_none_barrier _ _ _ _ c.barrier.ensures.moments (λ failed. absurd cc) (writes_none_start _))
+    writes_none_on _ _ _ _ c.in_ok-remove_folder.ensures.writes_none (writes_none_barrier _ _ _ _ c.barrier.ensures.moments c.barrier.ensures.counts (λ failed. absurd cc) (writes_none_start _))
 
 pub returns-clause-through : goal.returns-clause-through
 returns-clause-through g c = λ t told project surroundings old new is none each.
