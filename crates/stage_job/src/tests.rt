@@ -245,6 +245,7 @@ fn packages_are_staged(rt: HostRuntime) -> Result<(), Fail> {
     assert!(rt; passes(alloc, &mut device, Row(b"s", b"s", 20, Outcome::Staged(0))));
     assert_eq!(rt; first_wrong(alloc, &mut device.tree, &STAGED), None);
     assert_eq!(rt; device.tree.pending(), 0);
+    assert_eq!(rt; device.tree.writes(), 8);
     Ok(())
 }
 
