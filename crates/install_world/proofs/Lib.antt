@@ -1,5 +1,6 @@
 pub mod ApartPaths
 pub mod Cuts
+pub mod FinishAlike
 pub mod Finished
 pub mod FirstLine
 pub mod FlightLaws

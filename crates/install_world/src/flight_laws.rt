@@ -30,6 +30,19 @@ pub fn moves_keep_in_flight()
         → IsInFlight project surroundings old new (changed t (changes.Renamed (staged_path project number) (target_path project target))) }
 {}
 
+/// The moves of a part leave what finishing makes of a tree, whether it is in flight or not: what stands at a target is taken
+/// away, where the part is to be gone or is staged, and what is staged is put at its target.
+pub fn moves_keep_what_is_finished()
+    ensures taken { (project : List (List ℕ)) (t : FileTree) (journal : Journals) (stands : HasJournal project t journal) → length stands.text < 2 ^ 64
+        → (number : ℕ) (target : Targets) → IsPart journal.targets number target → (target.gone ≡ true) ⊎ IsThere t (staged_path project number)
+        → (path : List (List ℕ)) → is_project_part project path ≡ true
+        → finished_by project journal.targets (changed t (changes.Renamed (target_path project target) (kept_path project number))) path ≡ finished_by project journal.targets t path }
+    ensures put { (project : List (List ℕ)) (t : FileTree) (journal : Journals) (stands : HasJournal project t journal) → length stands.text < 2 ^ 64
+        → (number : ℕ) (target : Targets) → IsPart journal.targets number target → target.gone ≡ false → IsThere t (staged_path project number)
+        → (path : List (List ℕ)) → is_project_part project path ≡ true
+        → finished_by project journal.targets (changed t (changes.Renamed (staged_path project number) (target_path project target))) path ≡ finished_by project journal.targets t path }
+{}
+
 /// The finished project of a tree in flight is what the job makes, whatever was done of it, where the journal stands, and
 /// one of the two projects where none does. Where all parts are done, the project is what the job makes.
 pub fn what_is_in_flight_is_finished()

@@ -25,8 +25,8 @@ mod writing;
 pub use ending::remove_journal;
 pub use fault::JournalFault;
 pub use flight_laws::{
-    lost_parts_are_not_in_flight, moves_keep_in_flight, staged_jobs_are_in_flight,
-    what_is_in_flight_is_finished,
+    lost_parts_are_not_in_flight, moves_keep_in_flight, moves_keep_what_is_finished,
+    staged_jobs_are_in_flight, what_is_in_flight_is_finished,
 };
 pub use journal::Journal;
 pub use laws::{bad_journals_have_one_place, journal_texts_are_read};
