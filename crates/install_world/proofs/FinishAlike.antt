@@ -26,7 +26,7 @@ both_gone : (gone : Bool) (a b : Option (List ℕ)) → gone ≡ true → cond g
 both_gone true a b e = refl
 both_gone false a b e = absurd cc
 
-same_file : (gone there now : Bool) (a b x y : Option (List ℕ)) → now ≡ there → a ≡ b → x ≡ y → cond gone None (cond now a x) ≡ cond gone None (cond there b y)
+pub same_file : (gone there now : Bool) (a b x y : Option (List ℕ)) → now ≡ there → a ≡ b → x ≡ y → cond gone None (cond now a x) ≡ cond gone None (cond there b y)
 same_file gone there now a b x y p q r =
     ap (λ n. cond gone None (cond n a x)) p ∙ ap (λ f. cond gone None (cond there f x)) q ∙ ap (λ f. cond gone None (cond there b f)) r
 

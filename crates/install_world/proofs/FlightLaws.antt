@@ -165,17 +165,15 @@ target_under [] target is = by target.path is.place
 target_under (x ∷ xs) target is = refl
 
 -- Where all parts are done, the project is the new one.
-pub all_done_is_new : (project : List (List ℕ)) (surroundings : FileTree) (old new : Files) (t : FileTree) (journal : Journal) (stands : HasJournal project t journal)
-    → length stands.text < 2 ^ 64 → IsInFlight project surroundings old new t → IsTree t → AreAllDone project journal.targets t → HasFiles project t new
+-- where all parts are done, what finishing makes of a tree is its own project
+pub all_done_is_own : (project : List (List ℕ)) (t : FileTree) (journal : Journal) → HasJournal project t journal → IsTree t → AreAllDone project journal.targets t
+    → (path : List (List ℕ)) → finished_by project journal.targets t path ≡ file_at t path
 unfolding finished_by
-all_done_is_new project surroundings old new t journal stands small flight tree done = record {
-  each = λ path in_project. sym (same path (part_at project journal.targets path) refl)
-      ∙ finishes_new project surroundings old new t journal stands small flight path in_project;
-}
+all_done_is_own project t journal stands tree done path = same (part_at project journal.targets path) refl
   where
-    same : (path : List (List ℕ)) (found : Option Placed) → part_at project journal.targets path ≡ found → finished_file project t path (part_at project journal.targets path) ≡ file_at t path
-    same path None e = ap (finished_file project t path) e
-    same path (Some part) e = ap (finished_file project t path) e ∙ by (found_part project path journal.targets part e) part.gone refl
+    same : (found : Option Placed) → part_at project journal.targets path ≡ found → finished_file project t path (part_at project journal.targets path) ≡ file_at t path
+    same None e = ap (finished_file project t path) e
+    same (Some part) e = ap (finished_file project t path) e ∙ by (found_part project path journal.targets part e) part.gone refl
       where
         by : FoundPart project journal.targets path part 0 → (gone : Bool) → part.gone ≡ gone → finished_file project t path (Some part) ≡ file_at t path
         by found true is =
@@ -190,6 +188,13 @@ all_done_is_new project surroundings old new t journal stands small flight tree 
             let absent = subst (λ g. IsPartDone g project found.index found.target t) gone (done.each found.index found.target found.is_part) in
             ap (λ g. cond g None (cond (is_some (map.get t (staged_path project part.number))) (file_at t (staged_path project part.number ++ part.below)) (file_at t path))) is
             ∙ ap (λ o. cond (is_some o) (file_at t (staged_path project part.number ++ part.below)) (file_at t path)) (ap (λ n. map.get t (staged_path project n)) number ∙ absent)
+
+pub all_done_is_new : (project : List (List ℕ)) (surroundings : FileTree) (old new : Files) (t : FileTree) (journal : Journal) (stands : HasJournal project t journal)
+    → length stands.text < 2 ^ 64 → IsInFlight project surroundings old new t → IsTree t → AreAllDone project journal.targets t → HasFiles project t new
+all_done_is_new project surroundings old new t journal stands small flight tree done = record {
+  each = λ path in_project. sym (all_done_is_own project t journal stands tree done path)
+      ∙ finishes_new project surroundings old new t journal stands small flight path in_project;
+}
 
 -- ---- how it begins
 

@@ -73,7 +73,7 @@ new_left way t left removed new = record {
 pub new_in_flight : (way : Way) (t : FileTree) → IsNewProject way t → IsInFlight way.project way.surroundings way.old way.new t
 new_in_flight way t new = record { outside = new.outside; state = inl (new.no_journal, inr new.files) }
 
-gone_here : (q : List (List ℕ)) (t : FileTree) → map.get (changed t (changes.FileRemoved q)) q ≡ None
+pub gone_here : (q : List (List ℕ)) (t : FileTree) → map.get (changed t (changes.FileRemoved q)) q ≡ None
 gone_here q t = get-changed t (changes.FileRemoved q) q ∙ ap (λ same. cond same None (map.get t q)) ((eq_by_cmp_equiv path_cmp_total).refl q)
 
 -- all parts are done, and the journal goes

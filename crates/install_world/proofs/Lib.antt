@@ -2,6 +2,7 @@ pub mod ApartPaths
 pub mod Cuts
 pub mod FinishAlike
 pub mod Finished
+pub mod FinishSteps
 pub mod FirstLine
 pub mod FlightLaws
 pub mod FoldersInOrder
@@ -21,6 +22,7 @@ pub mod Places
 pub mod PlacesFree
 pub mod ReadJournal
 pub mod ReadTargets
+pub mod RecoveryCauses
 pub mod RecoveryFits
 pub mod RecoveryRules
 pub mod RemovalRules

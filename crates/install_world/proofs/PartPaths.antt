@@ -179,7 +179,7 @@ turned first second apart = record { not_below = apart.not_above; not_above = ap
 
 -- ---- the folder above a target
 
-last_segment : (path parent : List (List ℕ)) → without_last path ≡ Some parent → (last : List (List ℕ)) × (last ≢ []) × (path ≡ parent ++ last)
+pub last_segment : (path parent : List (List ℕ)) → without_last path ≡ Some parent → (last : List (List ℕ)) × (last ≢ []) × (path ≡ parent ++ last)
 last_segment [] parent e = absurd cc
 last_segment (first ∷ rest) parent e =
     let is : take (length rest) (first ∷ rest) ≡ parent = cc in

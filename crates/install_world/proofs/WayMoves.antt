@@ -50,7 +50,7 @@ pub staged_under : (project : List (List ℕ)) (number : ℕ) → is_root (stage
 staged_under [] number = refl
 staged_under (x ∷ xs) number = refl
 
-from_is_there : (t : FileTree) (from to : List (List ℕ)) → is_root from ≡ false → IsTrue (has_place t (changes.Renamed from to)) → IsThere t from
+pub from_is_there : (t : FileTree) (from to : List (List ℕ)) → is_root from ≡ false → IsTrue (has_place t (changes.Renamed from to)) → IsThere t from
 unfolding has_place
 from_is_there t from to under place =
     let fit = cond (is_file (entry_at t from)) (is_free_for_file t to) (is_free t to) in

@@ -8,3 +8,4 @@ pub mod Removals
 pub mod PartFaults
 pub mod Recovery
 pub mod Emptied
+pub mod Finishing

@@ -1,7 +1,8 @@
 -- What recovery makes of a project, and its faults.
-use Rattle.std.specs.Prelude.{◌≡◌, ◌⊎◌, ◌≤◌, ℕ, List, length, Bool, true, false, Option, None, Some, Result, Ok, Err}
+use Rattle.std.specs.Prelude.{◌≡◌, ◌⊎◌, ◌≤◌, ◌<◌, ℕ, List, length, Bool, true, false, Option, None, Some, Result, Ok, Err}
 use Rattle.std.specs.FinMap as map
-use Rattle.tree_dev.specs.Trees.{FileTree}
+use Rattle.tree_dev.specs.Trees.{FileTree, entry_at}
+use Rattle.tree_dev.specs.Changes.{is_leaf}
 use Rattle.tree_dev.specs.Projects.{journal_path, work_path}
 use Rattle.tree_dev.specs.declared.entry.Entry.{Entry}
 use Rattle.install_world.specs.InFlight.{Files, HasFiles, HasSurroundings, NoJournal}
@@ -92,6 +93,16 @@ is_refused (Err faults.OutOfMemory) = false
 -- A file is at a path, of no more bytes than a file may have, or nothing is.
 pub record IsReadable (at : List (List ℕ)) (t : FileTree) : Type 0 where
   pub either : (map.get t at ≡ None) ⊎ ((text : List ℕ) × (map.get t at ≡ Some (File text)) × (length text ≤ FILE_BYTES))
+
+-- Another kind of entry stands at a path than recovery needs there: it is no folder, or a folder stands where the journal goes.
+pub record IsOtherEntry (project path : List (List ℕ)) (t : FileTree) : Type 0 where
+  pub kind : (is_leaf (entry_at t path) ≡ true) ⊎ ((path ≡ journal_path project) × (map.get t path ≡ Some Folder))
+
+-- The file at a path has more bytes than a file may have.
+pub record IsLong (at : List (List ℕ)) (t : FileTree) : Type 0 where
+  pub text : List ℕ
+  pub there : map.get t at ≡ Some (File text)
+  pub long : FILE_BYTES < length text
 
 -- `.install` is a folder or absent, and a journal in it has no more bytes than a file may have.
 pub record CanRecover (project : List (List ℕ)) (t : FileTree) : Type 0 where

@@ -1,16 +1,20 @@
 //! A job that was committed, done to its end: its parts, and then its journal.
 
-ghost use Rattle.std.specs.Prelude.{◌≡◌, ◌≢◌, List, ℕ, false, Some, IfOk, OnOk, is_err};
+ghost use Rattle.std.specs.Prelude.{◌≡◌, ◌≢◌, List, ℕ, true, false, Some, Err, IfOk, OnOk, is_err};
 ghost use Rattle.std.specs.FinMap as map;
+ghost use Rattle.tree_dev.specs.Trees.{entry_at};
+ghost use Rattle.tree_dev.specs.Changes.{is_leaf};
 ghost use Rattle.tree_dev.specs.declared.entry.Entry.TheVariants as entries;
 ghost use Rattle.tree_dev.specs.Device.{OfTold};
 ghost use Rattle.tree_dev.specs.declared.did.Did.TheVariants as dids;
 ghost use Rattle.tree_dev.specs.Steady.{EachImage, IsWhole, Through};
 ghost use Rattle.tree_dev.specs.Projects.{journal_path, work_path};
-ghost use Rattle.install_world.specs.InFlight.{AreAllDone, HasJournal, IsInFlight};
+ghost use Rattle.install_world.specs.Finishing.{IsWithout, Stands};
+ghost use Rattle.install_world.specs.InFlight.{AreAllDone, HasJournal, IsInFlight, finished_by};
 ghost use Rattle.install_world.specs.Moving.{IsOnWay, Way};
 ghost use Rattle.install_world.specs.PartFaults.{is_device_fault, is_unfit};
-ghost use Rattle.install_world.specs.Recovery.{IsNewProject};
+ghost use Rattle.install_world.specs.declared.part_fault.PartFault.TheVariants as faults;
+ghost use Rattle.install_world.specs.Recovery.{IsNewProject, IsRecovered};
 ghost use Rattle.install_world.specs.Removals.{WritesNone};
 
 use crate::parts::{finish_parts, make_folder};
@@ -29,6 +33,7 @@ pub fn remove_journal<T: Tree>(tree: &mut T, journal: &Path) -> Result<Did, Fail
         → AreAllDone way.project way.journal.targets t → IsOnWay way t → EachImage (T.meaning tree.new) (IsNewProject way))) }
     ensures fits { IfOk result (λ did. OfTold (T.meaning tree.old) (λ t. (way : Way) → journal.now ≡ journal_path way.project
         → HasJournal way.project t way.journal → did ≡ dids.Done)) }
+    ensures left { IfOk result (λ did. did ≡ dids.Done → OfTold (T.meaning tree.old) (λ t. EachImage (T.meaning tree.new) (IsWithout journal.now t))) }
     ensures others { IfOk result (λ did. did ≡ dids.Done → OfTold (T.meaning tree.old) (λ t. OfTold (T.meaning tree.new) (λ u. (path : List (List ℕ))
         → path ≢ journal.now → map.get u path ≡ map.get t path))) }
 {
@@ -52,8 +57,10 @@ fn end_journal<T: Tree>(alloc: Global, tree: &mut T, journal: &Path) -> Result<(
         → AreAllDone way.project way.journal.targets t → IsOnWay way t → EachImage (T.meaning tree.new) (IsNewProject way))) }
     ensures others { OnOk result (OfTold (T.meaning tree.old) (λ t. OfTold (T.meaning tree.new) (λ u. (path : List (List ℕ)) → path ≢ journal.now
         → map.get u path ≡ map.get t path))) }
+    ensures left { OnOk result (OfTold (T.meaning tree.old) (λ t. EachImage (T.meaning tree.new) (IsWithout journal.now t))) }
     ensures fits { OfTold (T.meaning tree.old) (λ t. (way : Way) → journal.now ≡ journal_path way.project → HasJournal way.project t way.journal
         → is_unfit result ≡ false) }
+    ensures not_other { (path : List (List ℕ)) → result ≡ Err (faults.OtherEntry path) → ⊥ }
 {
     match remove_journal(tree, journal)? {
         Did::Done => Ok(()),
@@ -76,12 +83,15 @@ pub(crate) fn finish_journal<T: Tree>(
     ensures settled { OnOk result (OfTold (T.meaning tree.old) (λ t. IsWhole (T.meaning tree.old).disks.now → (way : Way)
         → way.project ≡ project.now → way.journal ≡ journal.now → at.now ≡ journal_path project.now → EachImage (T.meaning tree.old) (IsOnWay way)
         → EachImage (T.meaning tree.new) (IsNewProject way))) }
+    ensures finished { OnOk result (OfTold (T.meaning tree.old) (λ t. at.now ≡ journal_path project.now → Stands project.now journal.now t
+        → EachImage (T.meaning tree.new) (IsRecovered project.now (finished_by project.now journal.now.targets t)))) }
     ensures work { OnOk result (OfTold (T.meaning tree.old) (λ t. IsWhole (T.meaning tree.old).disks.now → (way : Way)
         → way.project ≡ project.now → way.journal ≡ journal.now → at.now ≡ journal_path project.now → EachImage (T.meaning tree.old) (IsOnWay way)
         → OfTold (T.meaning tree.new) (λ u. map.get u (work_path project.now) ≡ Some entries.Folder))) }
     ensures fits { OfTold (T.meaning tree.old) (λ t. IsWhole (T.meaning tree.old).disks.now → (way : Way)
         → way.project ≡ project.now → way.journal ≡ journal.now → at.now ≡ journal_path project.now → EachImage (T.meaning tree.old) (IsOnWay way)
         → is_unfit result ≡ false) }
+    ensures cause { (path : List (List ℕ)) → result ≡ Err (faults.OtherEntry path) → OfTold (T.meaning tree.new) (λ t. is_leaf (entry_at t path) ≡ true) }
 {
     let work = project.child(alloc, b".install")?;
     let old = work.child(alloc, b"old")?;

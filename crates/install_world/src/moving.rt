@@ -11,8 +11,10 @@ ghost use Rattle.tree_dev.specs.Steady.{EachImage, IsWhole, Through};
 ghost use Rattle.tree_dev.specs.declared.did.Did.TheVariants as dids;
 ghost use Rattle.tree_dev.specs.declared.entry.Kind.TheVariants as kinds;
 ghost use Rattle.install_world.specs.InFlight.{IsPart, IsPartDone, IsThere, staged_path, target_path};
+ghost use Rattle.install_world.specs.Finishing.{FinishesAlike, Stands};
 ghost use Rattle.install_world.specs.Moving.{Way, IsOnWay, ArePlaces, ChangesPlaces, HasRoom};
 ghost use Rattle.install_world.specs.Removals.{WritesNone};
+ghost use Rattle.install_world.specs.declared.journal.Journal.{Journal as Journals};
 ghost use Rattle.install_world.specs.declared.target.Target.{Target as Targets};
 
 use path_name::Path;
@@ -38,6 +40,9 @@ fn take_away<T: Tree>(tree: &mut T, places: &PartPlaces) -> Result<Did, Failed>
         → EachImage (T.meaning tree.old) (IsOnWay way) → Through (T.meaning tree.old) (T.meaning tree.new) (IsOnWay way)) }
     ensures done { IfOk result (λ did. did ≡ dids.Done → OfTold (T.meaning tree.old) (λ t. (project : List (List ℕ)) (number : ℕ) (target : Targets)
         → ArePlaces project number target places.now → map.get (reading (T.meaning tree.new).disks.now) (target_path project target) ≡ None)) }
+    ensures alike { OfTold (T.meaning tree.old) (λ t. (project : List (List ℕ)) (journal : Journals) (number : ℕ) (target : Targets)
+        → ArePlaces project number target places.now → IsPart journal.targets number target → target.gone ≡ true → Stands project journal t
+        → FinishesAlike project journal t (reading (T.meaning tree.new).disks.now)) }
     ensures fits { IfOk result (λ did. OfTold (T.meaning tree.old) (λ t. (way : Way) (number : ℕ) (target : Targets)
         → ArePlaces way.project number target places.now → IsPart way.journal.targets number target
         → IsOnWay way t → HasRoom true places.now t → did ≡ dids.Done)) }
@@ -67,6 +72,9 @@ fn make_way<T: Tree>(tree: &mut T, places: &PartPlaces, staged_is_file: bool) ->
     ensures through { OfTold (T.meaning tree.old) (λ t. IsWhole (T.meaning tree.old).disks.now → (way : Way) (number : ℕ) (target : Targets)
         → ArePlaces way.project number target places.now → IsPart way.journal.targets number target → IsThere t places.now.staged
         → EachImage (T.meaning tree.old) (IsOnWay way) → Through (T.meaning tree.old) (T.meaning tree.new) (IsOnWay way)) }
+    ensures alike { OfTold (T.meaning tree.old) (λ t. (project : List (List ℕ)) (journal : Journals) (number : ℕ) (target : Targets)
+        → ArePlaces project number target places.now → IsPart journal.targets number target → IsThere t places.now.staged → Stands project journal t
+        → FinishesAlike project journal t (reading (T.meaning tree.new).disks.now)) }
     ensures fits { IfOk result (λ did. OfTold (T.meaning tree.old) (λ t. (way : Way) (number : ℕ) (target : Targets)
         → ArePlaces way.project number target places.now → IsPart way.journal.targets number target
         → IsOnWay way t → IsThere t places.now.staged → staged_is_file ≡ is_file (entry_at t places.now.staged) → HasRoom false places.now t
@@ -89,6 +97,9 @@ fn put<T: Tree>(tree: &mut T, places: &PartPlaces, staged_is_file: bool) -> Resu
         → EachImage (T.meaning tree.old) (IsOnWay way) → Through (T.meaning tree.old) (T.meaning tree.new) (IsOnWay way)) }
     ensures done { IfOk result (λ did. did ≡ dids.Done → OfTold (T.meaning tree.old) (λ t. (project : List (List ℕ)) (number : ℕ) (target : Targets)
         → ArePlaces project number target places.now → map.get (reading (T.meaning tree.new).disks.now) (staged_path project number) ≡ None)) }
+    ensures alike { OfTold (T.meaning tree.old) (λ t. (project : List (List ℕ)) (journal : Journals) (number : ℕ) (target : Targets)
+        → ArePlaces project number target places.now → IsPart journal.targets number target → target.gone ≡ false → IsThere t places.now.staged → Stands project journal t
+        → FinishesAlike project journal t (reading (T.meaning tree.new).disks.now)) }
     ensures fits { IfOk result (λ did. OfTold (T.meaning tree.old) (λ t. (way : Way) (number : ℕ) (target : Targets)
         → ArePlaces way.project number target places.now → IsPart way.journal.targets number target
         → IsOnWay way t → IsThere t places.now.staged → staged_is_file ≡ is_file (entry_at t places.now.staged) → HasRoom false places.now t → did ≡ dids.Done)) }
@@ -114,6 +125,10 @@ pub fn move_part<T: Tree>(tree: &mut T, places: &PartPlaces, gone: bool) -> Resu
     // After Done the part is done.
     ensures done { IfOk result (λ did. did ≡ dids.Done → OfTold (T.meaning tree.old) (λ t. (project : List (List ℕ)) (number : ℕ) (target : Targets)
         → ArePlaces project number target places.now → IsPartDone gone project number target (reading (T.meaning tree.new).disks.now))) }
+    // What finishing the journal makes of the tree stays, whether it is in flight or not.
+    ensures alike { OfTold (T.meaning tree.old) (λ t. (project : List (List ℕ)) (journal : Journals) (number : ℕ) (target : Targets)
+        → ArePlaces project number target places.now → IsPart journal.targets number target → target.gone ≡ gone → Stands project journal t
+        → FinishesAlike project journal t (reading (T.meaning tree.new).disks.now)) }
     // Over a tree that tells and is on the way, it is Done where nothing stands in the way of what is taken away.
     ensures fits { IfOk result (λ did. OfTold (T.meaning tree.old) (λ t. (way : Way) (number : ℕ) (target : Targets)
         → ArePlaces way.project number target places.now → IsPart way.journal.targets number target

@@ -1,6 +1,6 @@
 //! The parts of a job that was committed, each finished.
 
-ghost use Rattle.std.specs.Prelude.{◌≡◌, ◌⊎◌, ◌++◌, ℕ, List, true, false, None, IfOk, OnOk, MatchOption, is_err, is_some};
+ghost use Rattle.std.specs.Prelude.{◌≡◌, ◌⊎◌, ◌++◌, ℕ, List, true, false, None, Err, IfOk, OnOk, MatchOption, is_err, is_some};
 ghost use Rattle.std.specs.FinMap as map;
 ghost use Rattle.tree_dev.specs.Trees.{FileTree, entry_at, has_folder, is_folder, kind_at};
 ghost use Rattle.path_name.specs.Decimals.{decimal_text};
@@ -10,10 +10,13 @@ ghost use Rattle.tree_dev.specs.Device.{OfTold, OnlyRead};
 ghost use Rattle.tree_dev.specs.Disk.{reading};
 ghost use Rattle.tree_dev.specs.Steady.{EachImage, IsWhole, Through};
 ghost use Rattle.install_world.specs.InFlight.{AreAllDone, IsPart, IsPartDone, IsThere};
+ghost use Rattle.install_world.specs.Finishing.{FinishesAlike, MakesReady, OnlyMade, Stands};
 ghost use Rattle.install_world.specs.Moving.{Way, IsOnWay, ArePlaces, HasRoom};
 ghost use Rattle.install_world.specs.Removals.{OnlyRemoved, Removes, WritesNone};
 ghost use Rattle.install_world.specs.PartFaults.{is_device_fault, is_unfit};
 ghost use Rattle.install_world.specs.Targets.{IsTargetPath};
+ghost use Rattle.install_world.specs.declared.part_fault.PartFault.TheVariants as faults;
+ghost use Rattle.install_world.specs.declared.journal.Journal.{Journal as Journals};
 ghost use Rattle.install_world.specs.declared.target.Target.{Target as Targets};
 
 use crate::{PartFault, PartPlaces, Target, move_part, remove_folder};
@@ -56,7 +59,9 @@ pub fn places_of(
 
 /// Makes a folder. `Vanished`: something is there, or no folder is above it.
 fn make_missing<T: Tree>(alloc: Global, tree: &mut T, at: &Path) -> Result<(), PartFault>
-    ensures { WritesNone (T.meaning tree.old) (T.meaning tree.new) (is_device_fault result) }
+    ensures writes_none { WritesNone (T.meaning tree.old) (T.meaning tree.new) (is_device_fault result) }
+    ensures makes { OnlyMade at.now (reading (T.meaning tree.old).disks.now) (reading (T.meaning tree.new).disks.now) }
+    ensures not_other { (path : List (List ℕ)) → result ≡ Err (faults.OtherEntry path) → ⊥ }
 {
     match tree.make_dir(at)? {
         Made::New => Ok(()),
@@ -67,8 +72,10 @@ fn make_missing<T: Tree>(alloc: Global, tree: &mut T, at: &Path) -> Result<(), P
 /// Makes a folder where nothing is. `OtherEntry`: an entry is there that is no folder.
 pub(crate) fn make_folder<T: Tree>(alloc: Global, tree: &mut T, at: &Path) -> Result<(), PartFault>
     ensures writes_none { WritesNone (T.meaning tree.old) (T.meaning tree.new) (is_device_fault result) }
+    ensures makes { OnlyMade at.now (reading (T.meaning tree.old).disks.now) (reading (T.meaning tree.new).disks.now) }
     ensures still { OfTold (T.meaning tree.old) (λ t. is_folder (entry_at t at.now) ≡ true → (T.meaning tree.new).disks ≡ (T.meaning tree.old).disks) }
     ensures fits { OfTold (T.meaning tree.old) (λ t. is_folder (entry_at t at.now) ≡ true → is_unfit result ≡ false) }
+    ensures cause { (path : List (List ℕ)) → result ≡ Err (faults.OtherEntry path) → OfTold (T.meaning tree.new) (λ t. is_leaf (entry_at t path) ≡ true) }
 {
     match tree.stat(at)? {
         Kind::Folder => Ok(()),
@@ -84,7 +91,9 @@ fn make_folders<T: Tree>(
     project: &Path,
     path: &Path,
 ) -> Result<(), PartFault>
-    ensures { WritesNone (T.meaning tree.old) (T.meaning tree.new) (is_device_fault result) }
+    ensures writes_none { WritesNone (T.meaning tree.old) (T.meaning tree.new) (is_device_fault result) }
+    ensures makes { OnlyMade (project.now ++ path.now) (reading (T.meaning tree.old).disks.now) (reading (T.meaning tree.new).disks.now) }
+    ensures cause { (path : List (List ℕ)) → result ≡ Err (faults.OtherEntry path) → OfTold (T.meaning tree.new) (λ t. is_leaf (entry_at t path) ≡ true) }
 {
     path_is_segments(path);
     let names = path.segments(alloc)?;
@@ -103,7 +112,9 @@ fn make_above<T: Tree>(
     project: &Path,
     target: &Path,
 ) -> Result<(), PartFault>
-    ensures { WritesNone (T.meaning tree.old) (T.meaning tree.new) (is_device_fault result) }
+    ensures writes_none { WritesNone (T.meaning tree.old) (T.meaning tree.new) (is_device_fault result) }
+    ensures makes { OnlyMade (project.now ++ target.now) (reading (T.meaning tree.old).disks.now) (reading (T.meaning tree.new).disks.now) }
+    ensures cause { (path : List (List ℕ)) → result ≡ Err (faults.OtherEntry path) → OfTold (T.meaning tree.new) (λ t. is_leaf (entry_at t path) ≡ true) }
 {
     match target.parent(alloc)? {
         None => Ok(()),
@@ -120,8 +131,10 @@ fn make_up_to<T: Tree>(
     parent: &Path,
 ) -> Result<(), PartFault>
     ensures writes_none { WritesNone (T.meaning tree.old) (T.meaning tree.new) (is_device_fault result) }
+    ensures makes { OnlyMade (project.now ++ target.now) (reading (T.meaning tree.old).disks.now) (reading (T.meaning tree.new).disks.now) }
     ensures still { OfTold (T.meaning tree.old) (λ t. is_folder (entry_at t parent.now) ≡ true → (T.meaning tree.new).disks ≡ (T.meaning tree.old).disks) }
     ensures fits { OfTold (T.meaning tree.old) (λ t. is_folder (entry_at t parent.now) ≡ true → is_unfit result ≡ false) }
+    ensures cause { (path : List (List ℕ)) → result ≡ Err (faults.OtherEntry path) → OfTold (T.meaning tree.new) (λ t. is_leaf (entry_at t path) ≡ true) }
 {
     match tree.stat(parent)? {
         Kind::Folder => Ok(()),
@@ -137,9 +150,11 @@ fn make_parents<T: Tree>(
     target: &Path,
 ) -> Result<(), PartFault>
     ensures writes_none { WritesNone (T.meaning tree.old) (T.meaning tree.new) (is_device_fault result) }
+    ensures makes { OnlyMade (project.now ++ target.now) (reading (T.meaning tree.old).disks.now) (reading (T.meaning tree.new).disks.now) }
     ensures still { OfTold (T.meaning tree.old) (λ t. has_folder t (without_last (project.now ++ target.now)) ≡ true
         → (T.meaning tree.new).disks ≡ (T.meaning tree.old).disks) }
     ensures fits { OfTold (T.meaning tree.old) (λ t. has_folder t (without_last (project.now ++ target.now)) ≡ true → is_unfit result ≡ false) }
+    ensures cause { (path : List (List ℕ)) → result ≡ Err (faults.OtherEntry path) → OfTold (T.meaning tree.new) (λ t. is_leaf (entry_at t path) ≡ true) }
 {
     let whole = project.join(alloc, target)?;
     match whole.parent(alloc)? {
@@ -158,6 +173,38 @@ fn is_there<T: Tree>(tree: &mut T, at: &Path) -> Result<bool, Failed>
         Kind::Absent => Ok(false),
         _ => Ok(true),
     }
+}
+
+/// Whether a part has something staged that is to be put at its target.
+fn is_to_be_put<T: Tree>(tree: &mut T, places: &PartPlaces, gone: bool) -> Result<bool, Failed>
+    ensures only_read { OnlyRead (T.meaning tree.old) (T.meaning tree.new) (is_err result) }
+{
+    if gone {
+        return Ok(false);
+    }
+    is_there(tree, &places.staged)
+}
+
+/// Makes the missing folders above the target of a part that is to be put there.
+fn make_needed<T: Tree>(
+    alloc: Global,
+    tree: &mut T,
+    project: &Path,
+    target: &Target,
+    places: &PartPlaces,
+) -> Result<(), PartFault>
+    ensures writes_none { WritesNone (T.meaning tree.old) (T.meaning tree.new) (is_device_fault result) }
+    ensures makes { OnlyMade (project.now ++ target.now.path) (reading (T.meaning tree.old).disks.now) (reading (T.meaning tree.new).disks.now) }
+    ensures still { OfTold (T.meaning tree.old) (λ t. has_folder t (without_last (project.now ++ target.now.path)) ≡ true
+        → (T.meaning tree.new).disks ≡ (T.meaning tree.old).disks) }
+    ensures fits { OfTold (T.meaning tree.old) (λ t. has_folder t (without_last (project.now ++ target.now.path)) ≡ true → is_unfit result ≡ false) }
+    ensures cause { (path : List (List ℕ)) → result ≡ Err (faults.OtherEntry path) → OfTold (T.meaning tree.new) (λ t. is_leaf (entry_at t path) ≡ true) }
+{
+    let needed = is_to_be_put(tree, places, target.gone)?;
+    if needed {
+        return make_parents(alloc, tree, project, &target.path);
+    }
+    Ok(())
 }
 
 /// Whether something is at the target of a part that is still to be moved.
@@ -182,6 +229,7 @@ fn remove_one<T: Tree>(alloc: Global, tree: &mut T, at: &Path) -> Result<(), Par
     ensures removes { Removes at.now (T.meaning tree.old) (T.meaning tree.new) }
     ensures gone { OnOk result (OfTold (T.meaning tree.new) (λ t. map.get t at.now ≡ None)) }
     ensures fits { OfTold (T.meaning tree.old) (λ t. is_leaf (entry_at t at.now) ≡ true → is_unfit result ≡ false) }
+    ensures not_other { (path : List (List ℕ)) → result ≡ Err (faults.OtherEntry path) → ⊥ }
 {
     match tree.remove_file(at)? {
         Did::Done => Ok(()),
@@ -200,6 +248,7 @@ fn remove_entry<T: Tree>(
     ensures removes { Removes at.now (T.meaning tree.old) (T.meaning tree.new) }
     ensures gone { OnOk result (OfTold (T.meaning tree.new) (λ t. map.get t at.now ≡ None)) }
     ensures fits { OfTold (T.meaning tree.old) (λ t. IsThere t at.now → kind ≡ kind_at t at.now → is_unfit result ≡ false) }
+    ensures not_other { (path : List (List ℕ)) → result ≡ Err (faults.OtherEntry path) → ⊥ }
 {
     match kind {
         Kind::Folder => {
@@ -258,6 +307,7 @@ fn settle_and_remove<T: Tree>(
         → EachImage (T.meaning tree.old) (IsOnWay way) → Through (T.meaning tree.old) (T.meaning tree.new) (IsOnWay way)) }
     ensures gone { OnOk result (OfTold (T.meaning tree.new) (λ t. map.get t at.now ≡ None)) }
     ensures fits { OfTold (T.meaning tree.old) (λ t. IsThere t at.now → kind ≡ kind_at t at.now → is_unfit result ≡ false) }
+    ensures not_other { (path : List (List ℕ)) → result ≡ Err (faults.OtherEntry path) → ⊥ }
 {
     tree.barrier()?;
     remove_entry(alloc, tree, at, kind)
@@ -277,6 +327,7 @@ fn clear_kept<T: Tree>(
         → EachImage (T.meaning tree.old) (IsOnWay way) → Through (T.meaning tree.old) (T.meaning tree.new) (IsOnWay way)) }
     ensures room { OnOk result (OfTold (T.meaning tree.old) (λ t. is_root places.now.kept ≡ false → OfTold (T.meaning tree.new) (HasRoom gone places.now))) }
     ensures fits { OfTold (T.meaning tree.old) (λ t. is_root places.now.kept ≡ false → is_unfit result ≡ false) }
+    ensures not_other { (path : List (List ℕ)) → result ≡ Err (faults.OtherEntry path) → ⊥ }
 {
     match kept_in_the_way(tree, places, gone)? {
         None => Ok(()),
@@ -284,7 +335,8 @@ fn clear_kept<T: Tree>(
     }
 }
 
-/// Makes ready what the moves of a part need: the folders above its target, and nothing where the target is taken.
+/// Makes ready what the moves of a part need: the folders above a target at which something is to be put, and nothing where
+/// what stands at a target is taken.
 fn prepare_part<T: Tree>(
     alloc: Global,
     tree: &mut T,
@@ -293,20 +345,20 @@ fn prepare_part<T: Tree>(
     places: &PartPlaces,
 ) -> Result<(), PartFault>
     ensures writes_none { WritesNone (T.meaning tree.old) (T.meaning tree.new) (is_device_fault result) }
+    ensures ready { MakesReady (project.now ++ target.now.path) places.now.kept (reading (T.meaning tree.old).disks.now) (reading (T.meaning tree.new).disks.now) }
     ensures through { OfTold (T.meaning tree.old) (λ t. (way : Way) (number : ℕ) → way.project ≡ project.now
         → ArePlaces project.now number target.now places.now → IsPart way.journal.targets number target.now
         → EachImage (T.meaning tree.old) (IsOnWay way) → Through (T.meaning tree.old) (T.meaning tree.new) (IsOnWay way)) }
-    ensures removes { OfTold (T.meaning tree.old) (λ t. (way : Way) (number : ℕ) → way.project ≡ project.now
-        → IsPart way.journal.targets number target.now → IsOnWay way t → OnlyRemoved places.now.kept t (reading (T.meaning tree.new).disks.now)) }
     ensures room { OnOk result (OfTold (T.meaning tree.old) (λ t. is_root places.now.kept ≡ false → OfTold (T.meaning tree.new) (HasRoom target.now.gone places.now))) }
     ensures fits { OfTold (T.meaning tree.old) (λ t. is_root places.now.kept ≡ false → has_folder t (without_last (project.now ++ target.now.path)) ≡ true
         → is_unfit result ≡ false) }
+    ensures cause { (path : List (List ℕ)) → result ≡ Err (faults.OtherEntry path) → OfTold (T.meaning tree.new) (λ t. is_leaf (entry_at t path) ≡ true) }
 {
-    make_parents(alloc, tree, project, &target.path)?;
+    make_needed(alloc, tree, project, target, places)?;
     clear_kept(alloc, tree, places, target.gone)
 }
 
-/// Finishes a part: makes missing folders above its target, and moves it.
+/// Finishes a part: makes missing folders above its target where a move needs them, and moves it.
 fn finish_part<T: Tree>(
     alloc: Global,
     tree: &mut T,
@@ -320,12 +372,15 @@ fn finish_part<T: Tree>(
         → EachImage (T.meaning tree.old) (IsOnWay way) → Through (T.meaning tree.old) (T.meaning tree.new) (IsOnWay way)) }
     ensures done { OnOk result (OfTold (T.meaning tree.old) (λ t. IsTargetPath target.now.path
         → IsPartDone target.now.gone project.now number target.now (reading (T.meaning tree.new).disks.now))) }
-    ensures others { OnOk result (OfTold (T.meaning tree.old) (λ t. (way : Way) → way.project ≡ project.now → IsPart way.journal.targets number target.now
-        → IsOnWay way t → (j : ℕ) (other : Targets) → (number ≡ j → ⊥) → IsPart way.journal.targets j other
+    ensures others { OnOk result (OfTold (T.meaning tree.old) (λ t. (journal : Journals) → Stands project.now journal t → IsPart journal.targets number target.now
+        → (j : ℕ) (other : Targets) → (number ≡ j → ⊥) → IsPart journal.targets j other
         → IsPartDone other.gone project.now j other t → IsPartDone other.gone project.now j other (reading (T.meaning tree.new).disks.now))) }
+    ensures alike { OfTold (T.meaning tree.old) (λ t. (journal : Journals) → Stands project.now journal t → IsPart journal.targets number target.now
+        → FinishesAlike project.now journal t (reading (T.meaning tree.new).disks.now)) }
     ensures fits { OfTold (T.meaning tree.old) (λ t. IsWhole (T.meaning tree.old).disks.now → (way : Way)
         → way.project ≡ project.now → IsPart way.journal.targets number target.now
         → EachImage (T.meaning tree.old) (IsOnWay way) → is_unfit result ≡ false) }
+    ensures cause { (path : List (List ℕ)) → result ≡ Err (faults.OtherEntry path) → OfTold (T.meaning tree.new) (λ t. is_leaf (entry_at t path) ≡ true) }
 {
     let places = places_of(alloc, project, number, target)?;
     prepare_part(alloc, tree, project, target, &places)?;
@@ -346,12 +401,14 @@ pub(crate) fn finish_parts<T: Tree>(
     ensures through { OfTold (T.meaning tree.old) (λ t. IsWhole (T.meaning tree.old).disks.now → (way : Way)
         → way.project ≡ project.now → way.journal.targets ≡ targets.now
         → EachImage (T.meaning tree.old) (IsOnWay way) → Through (T.meaning tree.old) (T.meaning tree.new) (IsOnWay way)) }
-    ensures done { OnOk result (OfTold (T.meaning tree.old) (λ t. IsWhole (T.meaning tree.old).disks.now → (way : Way)
-        → way.project ≡ project.now → way.journal.targets ≡ targets.now
-        → EachImage (T.meaning tree.old) (IsOnWay way) → AreAllDone project.now targets.now (reading (T.meaning tree.new).disks.now))) }
+    ensures done { OnOk result (OfTold (T.meaning tree.old) (λ t. (journal : Journals) → journal.targets ≡ targets.now → Stands project.now journal t
+        → AreAllDone project.now targets.now (reading (T.meaning tree.new).disks.now))) }
+    ensures alike { OfTold (T.meaning tree.old) (λ t. (journal : Journals) → journal.targets ≡ targets.now → Stands project.now journal t
+        → FinishesAlike project.now journal t (reading (T.meaning tree.new).disks.now)) }
     ensures fits { OfTold (T.meaning tree.old) (λ t. IsWhole (T.meaning tree.old).disks.now → (way : Way)
         → way.project ≡ project.now → way.journal.targets ≡ targets.now
         → EachImage (T.meaning tree.old) (IsOnWay way) → is_unfit result ≡ false) }
+    ensures cause { (path : List (List ℕ)) → result ≡ Err (faults.OtherEntry path) → OfTold (T.meaning tree.new) (λ t. is_leaf (entry_at t path) ≡ true) }
 {
     'targets: for (number, target) in targets.iter().enumerate() {
         finish_part(alloc, tree, project, number as u64, target)?;

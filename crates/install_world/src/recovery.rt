@@ -1,20 +1,22 @@
 //! Recovery: an install that a crash or a fault cut off is finished, or taken away.
 
-ghost use Rattle.std.specs.Prelude.{◌≡◌, ◌<◌, ◌^◌, List, ℕ, false, IfOk, OnOk, Err, None, Some, MatchOption, length};
+ghost use Rattle.std.specs.Prelude.{◌≡◌, ◌<◌, ◌^◌, ◌⊎◌, List, ℕ, true, false, IfOk, OnOk, Err, None, Some, MatchOption, length};
 ghost use Rattle.std.specs.FinMap as map;
-ghost use Rattle.tree_dev.specs.Trees.{FileTree};
-ghost use Rattle.tree_dev.specs.Changes.{is_root};
+ghost use Rattle.tree_dev.specs.Trees.{FileTree, entry_at};
+ghost use Rattle.tree_dev.specs.Changes.{is_leaf, is_root};
 ghost use Rattle.tree_dev.specs.Device.{OfTold, OnlyRead};
 ghost use Rattle.tree_dev.specs.Disk.{reading};
 ghost use Rattle.tree_dev.specs.Steady.{EachImage, Through};
 ghost use Rattle.tree_dev.specs.Projects.{journal_path, work_path};
 ghost use Rattle.tree_dev.specs.declared.entry.Entry.TheVariants as entries;
+ghost use Rattle.tree_dev.specs.declared.limits.LimitKind.{LimitKind as Limits};
+ghost use Rattle.tree_dev.specs.declared.limits.LimitKind.TheVariants as limits;
 ghost use Rattle.install_world.specs.InFlight.{Files, HasFiles, IsFinishedProject, IsInFlight, IsThere, NoJournal};
 ghost use Rattle.install_world.specs.JournalText.{IsBadJournal};
 ghost use Rattle.install_world.specs.Removals.{OnlyRemoved, WritesNone};
 ghost use Rattle.install_world.specs.declared.recovery_fault.RecoverFault.TheVariants as faults;
 ghost use Rattle.install_world.specs.declared.recovery_fault.Recovered.TheVariants as did;
-ghost use Rattle.install_world.specs.Recovery.{CanRecover, HasBadJournal, IsReadable, IsRecovered, ended_by, is_device_fault, is_refused, recovered_in};
+ghost use Rattle.install_world.specs.Recovery.{CanRecover, HasBadJournal, IsLong, IsOtherEntry, IsReadable, IsRecovered, ended_by, is_device_fault, is_refused, recovered_in};
 
 use crate::ending::finish_journal;
 use crate::{RecoverFault, Recovered, read_journal, remove_folder};
@@ -29,6 +31,10 @@ fn read_text<T: Tree>(alloc: Global, tree: &mut T, at: &Path) -> Result<Option<T
         (λ text. (map.get t at.now ≡ Some (entries.File text)) × (length text < 2 ^ 64)))) }
     ensures not_bad { (place : ℕ) → result ≡ Err (faults.BadJournal place) → ⊥ }
     ensures fits { OfTold (T.meaning tree.old) (λ t. is_root at.now ≡ false → IsReadable at.now t → is_refused result ≡ false) }
+    ensures other { (path : List (List ℕ)) → result ≡ Err (faults.OtherEntry path) → (path ≡ at.now)
+        × OfTold (T.meaning tree.new) (λ t. is_root path ≡ false → (is_leaf (entry_at t path) ≡ true) ⊎ (map.get t path ≡ Some entries.Folder)) }
+    ensures limit { (limit : Limits) → result ≡ Err (faults.Limit limit) → (limit ≡ limits.FileBytes at.now) × (OnlyRead (T.meaning tree.old) (T.meaning tree.new) false
+        × OfTold (T.meaning tree.old) (λ t. is_root at.now ≡ false → IsLong at.now t)) }
 {
     match tree.read(alloc, at, FILE_BYTES)? {
         ReadAnswer::Bytes(text) => Ok(Some(text)),
@@ -53,6 +59,8 @@ fn take_install_away<T: Tree>(
     ensures left { OnOk result (OfTold (T.meaning tree.old) (λ t. EachImage (T.meaning tree.new) (OnlyRemoved work.now t))) }
     ensures gone { OnOk result (OfTold (T.meaning tree.new) (λ t. map.get t work.now ≡ None)) }
     ensures fits { OfTold (T.meaning tree.old) (λ t. map.get t work.now ≡ Some entries.Folder → is_refused result ≡ false) }
+    ensures not_other { (path : List (List ℕ)) → result ≡ Err (faults.OtherEntry path) → ⊥ }
+    ensures not_limit { (limit : Limits) → result ≡ Err (faults.Limit limit) → ⊥ }
 {
     tree.barrier()?;
     remove_folder(alloc, tree, work)?;
@@ -72,15 +80,17 @@ fn finish_text<T: Tree>(
     ensures through { OfTold (T.meaning tree.old) (λ t. (surroundings : FileTree) (old new : Files) → work.now ≡ work_path project.now → at.now ≡ journal_path project.now
         → map.get t at.now ≡ Some (entries.File text.now) → length text.now < 2 ^ 64 → EachImage (T.meaning tree.old) (IsInFlight project.now surroundings old new)
         → Through (T.meaning tree.old) (T.meaning tree.new) (IsInFlight project.now surroundings old new)) }
-    ensures finished { OnOk result (OfTold (T.meaning tree.old) (λ t. (surroundings : FileTree) (old new files : Files) → work.now ≡ work_path project.now → at.now ≡ journal_path project.now
-        → map.get t at.now ≡ Some (entries.File text.now) → length text.now < 2 ^ 64 → EachImage (T.meaning tree.old) (IsInFlight project.now surroundings old new)
-        → IsFinishedProject project.now t files → EachImage (T.meaning tree.new) (IsRecovered project.now files))) }
+    ensures finished { OnOk result (OfTold (T.meaning tree.old) (λ t. (files : Files) → work.now ≡ work_path project.now → at.now ≡ journal_path project.now
+        → map.get t at.now ≡ Some (entries.File text.now) → length text.now < 2 ^ 64 → IsFinishedProject project.now t files
+        → EachImage (T.meaning tree.new) (IsRecovered project.now files))) }
     ensures found { IfOk result (λ found. found ≡ did.Finished) }
     ensures gone { OnOk result (OfTold (T.meaning tree.new) (λ t. map.get t work.now ≡ None)) }
     ensures bad { (place : ℕ) → result ≡ Err (faults.BadJournal place) → IsBadJournal text.now place × OnlyRead (T.meaning tree.old) (T.meaning tree.new) false }
     ensures fits { OfTold (T.meaning tree.old) (λ t. (surroundings : FileTree) (old new : Files) → work.now ≡ work_path project.now → at.now ≡ journal_path project.now
         → map.get t at.now ≡ Some (entries.File text.now) → length text.now < 2 ^ 64 → EachImage (T.meaning tree.old) (IsInFlight project.now surroundings old new)
         → is_refused result ≡ false) }
+    ensures other { (path : List (List ℕ)) → result ≡ Err (faults.OtherEntry path) → OfTold (T.meaning tree.new) (λ t. is_leaf (entry_at t path) ≡ true) }
+    ensures not_limit { (limit : Limits) → result ≡ Err (faults.Limit limit) → ⊥ }
 {
     let journal = read_journal(alloc, text)?;
     tree.barrier()?;
@@ -101,14 +111,18 @@ fn finish_claimed<T: Tree>(
         → EachImage (T.meaning tree.old) (IsInFlight project.now surroundings old new)
         → Through (T.meaning tree.old) (T.meaning tree.new) (IsInFlight project.now surroundings old new)) }
     ensures found { IfOk result (λ found. OfTold (T.meaning tree.old) (λ t. work.now ≡ work_path project.now → found ≡ ended_by (map.get t (journal_path project.now)))) }
-    ensures finished { OnOk result (OfTold (T.meaning tree.old) (λ t. (surroundings : FileTree) (old new files : Files) → work.now ≡ work_path project.now
-        → EachImage (T.meaning tree.old) (IsInFlight project.now surroundings old new) → IsFinishedProject project.now t files
+    ensures finished { OnOk result (OfTold (T.meaning tree.old) (λ t. (files : Files) → work.now ≡ work_path project.now → IsFinishedProject project.now t files
         → EachImage (T.meaning tree.new) (IsRecovered project.now files))) }
     ensures gone { OnOk result (OfTold (T.meaning tree.new) (λ t. map.get t work.now ≡ None)) }
     ensures bad { (place : ℕ) → result ≡ Err (faults.BadJournal place) → OnlyRead (T.meaning tree.old) (T.meaning tree.new) false
         × OfTold (T.meaning tree.old) (λ t. work.now ≡ work_path project.now → HasBadJournal project.now t place) }
     ensures fits { OfTold (T.meaning tree.old) (λ t. (surroundings : FileTree) (old new : Files) → work.now ≡ work_path project.now → map.get t work.now ≡ Some entries.Folder
         → EachImage (T.meaning tree.old) (IsInFlight project.now surroundings old new) → CanRecover project.now t → is_refused result ≡ false) }
+    ensures other { (path : List (List ℕ)) → result ≡ Err (faults.OtherEntry path) → OfTold (T.meaning tree.new) (λ t. work.now ≡ work_path project.now
+        → IsOtherEntry project.now path t) }
+    ensures limit { (limit : Limits) → result ≡ Err (faults.Limit limit) → work.now ≡ work_path project.now
+        → (limit ≡ limits.FileBytes (journal_path project.now)) × (OnlyRead (T.meaning tree.old) (T.meaning tree.new) false
+        × OfTold (T.meaning tree.old) (IsLong (journal_path project.now))) }
 {
     let at = work.child(alloc, b"journal")?;
     match read_text(alloc, tree, &at)? {
@@ -135,17 +149,18 @@ pub fn finish_install<T: Tree>(
         → EachImage (T.meaning tree.old) (IsInFlight project.now surroundings old new)
         → Through (T.meaning tree.old) (T.meaning tree.new) (IsInFlight project.now surroundings old new)) }
     ensures found { IfOk result (λ found. OfTold (T.meaning tree.old) (λ t. found ≡ recovered_in project.now t)) }
-    ensures finished { OnOk result (OfTold (T.meaning tree.old) (λ t. (surroundings : FileTree) (old new files : Files)
-        → EachImage (T.meaning tree.old) (IsInFlight project.now surroundings old new) → IsFinishedProject project.now t files
+    ensures finished { OnOk result (OfTold (T.meaning tree.old) (λ t. (files : Files) → IsFinishedProject project.now t files
         → HasFiles project.now (reading (T.meaning tree.new).disks.now) files)) }
-    ensures settled { OnOk result (OfTold (T.meaning tree.old) (λ t. IsThere t (work_path project.now) → (surroundings : FileTree) (old new files : Files)
-        → EachImage (T.meaning tree.old) (IsInFlight project.now surroundings old new) → IsFinishedProject project.now t files
+    ensures settled { OnOk result (OfTold (T.meaning tree.old) (λ t. IsThere t (work_path project.now) → (files : Files) → IsFinishedProject project.now t files
         → EachImage (T.meaning tree.new) (IsRecovered project.now files))) }
     ensures gone { OnOk result (OfTold (T.meaning tree.new) (λ t. map.get t (work_path project.now) ≡ None)) }
     ensures bad { (place : ℕ) → result ≡ Err (faults.BadJournal place) → OnlyRead (T.meaning tree.old) (T.meaning tree.new) false
         × OfTold (T.meaning tree.old) (λ t. HasBadJournal project.now t place) }
     ensures fits { OfTold (T.meaning tree.old) (λ t. (surroundings : FileTree) (old new : Files)
         → EachImage (T.meaning tree.old) (IsInFlight project.now surroundings old new) → CanRecover project.now t → is_refused result ≡ false) }
+    ensures other { (path : List (List ℕ)) → result ≡ Err (faults.OtherEntry path) → OfTold (T.meaning tree.new) (IsOtherEntry project.now path) }
+    ensures limit { (limit : Limits) → result ≡ Err (faults.Limit limit) → (limit ≡ limits.FileBytes (journal_path project.now))
+        × (OnlyRead (T.meaning tree.old) (T.meaning tree.new) false × OfTold (T.meaning tree.old) (IsLong (journal_path project.now))) }
 {
     let work = project.child(alloc, b".install")?;
     match tree.stat(&work)? {

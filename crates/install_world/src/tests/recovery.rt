@@ -20,11 +20,12 @@ enum Outcome {
 }
 
 /// A job whose parts are each at another point: a folder over a folder, not begun; one taken away; one that is done;
-/// one that is to be gone; a file over a file; a file below a folder that is missing; and one with an entry in the way.
-const CUT_OFF: [File; 15] = [
+/// one that is to be gone; a file over a file; a file below a folder that is missing; one with an entry in the way; and one that
+/// is to be gone, and is not there.
+static CUT_OFF: [File; 15] = [
     File(
         b".install/journal",
-        b"install-journal 2\ngeneration 7\nmove 0 76656e646f722f61\nmove 1 76656e646f722f62\nmove 2 76656e646f722f63\ngone 3 76656e646f722f64\nmove 4 636f6d706f7365722e6c6f636b\nmove 5 76656e646f722f652f66\nmove 6 76656e646f722f68\nend\n",
+        b"install-journal 2\ngeneration 7\nmove 0 76656e646f722f61\nmove 1 76656e646f722f62\nmove 2 76656e646f722f63\ngone 3 76656e646f722f64\nmove 4 636f6d706f7365722e6c6f636b\nmove 5 76656e646f722f652f66\nmove 6 76656e646f722f68\ngone 7 76656e646f722f692f6a\nend\n",
     ),
     File(b".install/new/0/f", b"new"),
     File(b".install/new/1/g", b"new"),
@@ -43,7 +44,7 @@ const CUT_OFF: [File; 15] = [
 ];
 
 /// The files that then stand, and, with no bytes, paths at which nothing is.
-const FINISHED: [File; 12] = [
+static FINISHED: [File; 13] = [
     File(b"vendor/a/f", b"new"),
     File(b"vendor/a/g", b""),
     File(b"vendor/b/g", b"new"),
@@ -54,12 +55,35 @@ const FINISHED: [File; 12] = [
     File(b"vendor/e/f", b"new"),
     File(b"vendor/h/f", b"new"),
     File(b"vendor/h/x", b""),
+    File(b"vendor/i", b""),
     File(b"app.php", b"app"),
     File(b".install", b""),
 ];
 
+/// A job whose second part goes below a file, and its third is not begun.
+static BLOCKED: [File; 5] = [
+    File(
+        b".install/journal",
+        b"install-journal 2\ngeneration 1\nmove 0 636f6d706f7365722e6c6f636b\nmove 1 76656e646f722f612f62\nmove 2 76656e646f722f63\nend\n",
+    ),
+    File(b".install/new/0", b"new"),
+    File(b".install/new/1/f", b"new"),
+    File(b".install/new/2/f", b"new"),
+    File(b"vendor/a", b"old"),
+];
+
+/// What stands once its first part is done: the others are not begun.
+static FIRST_DONE: [File; 6] = [
+    File(b"composer.lock", b"new"),
+    File(b".install/new/0", b""),
+    File(b".install/new/1/f", b"new"),
+    File(b".install/new/2/f", b"new"),
+    File(b"vendor/a", b"old"),
+    File(b"vendor/c", b""),
+];
+
 /// A file that stands alone, and what recovery does with its tree.
-const ALONE: [(File, Outcome); 6] = [
+static ALONE: [(File, Outcome); 6] = [
     (
         File(b"vendor/a/f", b"old"),
         Outcome::Did(Recovered::NothingToDo),
@@ -137,5 +161,14 @@ fn outcomes_of_recovery(rt: HostRuntime) -> Result<(), Fail> {
     for (file, expected) in &ALONE {
         assert!(rt; ends_as(alloc, *file, *expected)?);
     }
+    Ok(())
+}
+
+#[test]
+fn parts_before_a_blocked_one_are_done(rt: HostRuntime) -> Result<(), Fail> {
+    let alloc = rt.alloc();
+    let mut tree = tree_of(alloc, &BLOCKED)?;
+    assert!(rt; recover_in(alloc, &mut tree)? == Outcome::OtherEntry);
+    assert!(rt; all_stand(alloc, &mut tree, &FIRST_DONE)?);
     Ok(())
 }

@@ -28,3 +28,6 @@ returns-in_ok-copy-in-Misplaced-clause-fits g c = λ t told way is stands.
     let done = c.in_ok-remove_journal.ensures.fits t told way is stands in
     let misplaced = c.in-Misplaced.is in
     absurd cc
+
+pub returns-in-Done-clause-left : goal.returns-in-Done-clause-left
+returns-in-Done-clause-left g c = c.in_ok-remove_journal.ensures.left c.in-Done.is

@@ -6,12 +6,14 @@ use Rattle.install_world.proofs.PartDone.{told_still}
 use Rattle.install_world.proofs.PartFinish.{parents_then, still_through, way_reads}
 use Rattle.install_world.proofs.RemovalRules.{writes_none_on, writes_none_start}
 use Rattle.install_world.proofs.Segments.{install_segment, old_segment}
-use Rattle.std.proofs.Common.{◌≡◌, ◌∙◌, refl, subst}
+use Rattle.std.proofs.Common.{◌≡◌, ◌∙◌, refl, subst, sym}
 use Rattle.std.specs.Prelude.{Some}
 use Rattle.std.specs.FinMap as map
 use Rattle.tree_dev.specs.Projects.{work_path}
 use Rattle.tree_dev.specs.declared.entry.Entry.TheVariants.{Folder}
 use Rattle.install_world.proofs.RoomMade.{work_not_journal, work_stands}
+use Rattle.install_world.specs.Finishing.{FinishesAlike}
+use Rattle.install_world.proofs.FinishSteps.{all_done_told, alike_old, alike_then, finished_without, stands_after, stands_here}
 use Rattle.install_world.proofs.ending.finish_journal.Goals as goal
 
 pub child-requires : goal.child-requires
@@ -80,7 +82,8 @@ returns-clause-through g c = λ t told whole way same by is each.
     way_then way first third _ (through_then_through (IsOnWay way) first second third (c.finish_parts.ensures.through now.0 now.1 whole_second way same targets) start)
     (λ each_third. c.end_journal.ensures.through then.0 then.1 (c.finish_parts.ensures.writes_none.whole whole_second) way (at_way way c.args.project.now c.args.at.now same is)
     (all_done_of way c.args.project.now c.as_slice.result.now then.0 third same targets (g.met.T.Tree.tells_its_disk c.finish_parts.new.tree then.0 then.1)
-    (c.in_ok-finish_parts.ensures.done now.0 now.1 whole_second way same targets here)) each_third)
+    (c.in_ok-finish_parts.ensures.done now.0 now.1 way.journal targets
+    (stands_here way c.args.project.now second now.0 same (g.met.T.Tree.tells_its_disk c.make_folder.new.tree now.0 now.1) here))) each_third)
 
 pub returns-clause-settled : goal.returns-clause-settled
 returns-clause-settled g c = on_ok_weaker c.end_journal.result
@@ -98,7 +101,8 @@ returns-clause-settled g c = on_ok_weaker c.end_journal.result
     let here = through_ends (IsOnWay way) first second start in
     let disk = g.met.T.Tree.tells_its_disk c.finish_parts.new.tree then.0 then.1 in
     settled then.0 then.1 way (at_way way c.args.project.now c.args.at.now same is)
-    (all_done_of way c.args.project.now c.as_slice.result.now then.0 third same targets disk (c.in_ok-finish_parts.ensures.done now.0 now.1 whole_second way same targets here))
+    (all_done_of way c.args.project.now c.as_slice.result.now then.0 third same targets disk (c.in_ok-finish_parts.ensures.done now.0 now.1 way.journal targets
+    (stands_here way c.args.project.now second now.0 same (g.met.T.Tree.tells_its_disk c.make_folder.new.tree now.0 now.1) here)))
     (way_reads way third then.0 disk (through_ends (IsOnWay way) second third (c.finish_parts.ensures.through now.0 now.1 whole_second way same targets here))))
     c.end_journal.ensures.settled
 
@@ -169,3 +173,42 @@ returns-clause-work g c = on_ok_weaker c.end_journal.result
     others then.0 then.1 u after (work_path c.args.project.now) (λ e. work_not_journal c.args.project.now (e ∙ is))
     ∙ subst (λ project. map.get then.0 (work_path project) ≡ Some Folder) same (work_stands way then.0 (g.met.T.Tree.tells_trees c.finish_parts.new.tree then.0 then.1) last))
     c.end_journal.ensures.others
+
+pub returns-clause-finished : goal.returns-clause-finished
+returns-clause-finished g c = on_ok_weaker c.end_journal.result
+    (λ left t told is stands.
+    let project = c.args.project.now in
+    let journal = c.args.journal.now in
+    let first = g.T.Tree.meaning c.args.tree.now in
+    let second = g.T.Tree.meaning c.make_folder.new.tree in
+    let third = g.T.Tree.meaning c.finish_parts.new.tree in
+    let now = told_still first second t c.make_folder.ensures.writes_none.tells told in
+    let then = told_still second third now.0 c.finish_parts.ensures.writes_none.tells now.1 in
+    let disk = g.met.T.Tree.tells_its_disk c.make_folder.new.tree now.0 now.1 in
+    let last = g.met.T.Tree.tells_its_disk c.finish_parts.new.tree then.0 then.1 in
+    let made = alike_old project c.in_ok-old.old journal t first second (g.met.T.Tree.tells_its_disk c.args.tree.now t told)
+    (old_is project c.in_ok-work.work c.in_ok-old.old c.in_ok-work.ensures c.in_ok-old.ensures) c.make_folder.ensures.makes in
+    let moved = alike_then project journal t now.0 _ second disk made stands
+    (λ then_stands. c.finish_parts.ensures.alike now.0 now.1 journal (sym c.as_slice.ensures) then_stands) in
+    let done = all_done_told project c.as_slice.result.now journal.targets then.0 third c.as_slice.ensures last
+    (c.in_ok-finish_parts.ensures.done now.0 now.1 journal (sym c.as_slice.ensures) (stands_after project journal t now.0 second disk stands made)) in
+    λ u image. finished_without project c.args.at.now journal t then.0 u is (stands_after project journal t then.0 third last stands moved)
+    (subst (FinishesAlike project journal t) (sym last.reads) moved) (g.met.T.Tree.tells_trees c.finish_parts.new.tree then.0 then.1) done (left then.0 then.1 u image))
+    c.end_journal.ensures.left
+
+pub returns-in_err-make_folder-clause-cause : goal.returns-in_err-make_folder-clause-cause
+returns-in_err-make_folder-clause-cause g c = λ path is.
+    let p = err_from_is_err_and c.from_residual-in_err-make_folder.result c.from_residual-in_err-make_folder.ensures.1 in
+    let given = p.1 in
+    let from = p.2 in
+    c.in_err-make_folder.ensures.cause path cc
+
+pub returns-in_err-finish_parts-clause-cause : goal.returns-in_err-finish_parts-clause-cause
+returns-in_err-finish_parts-clause-cause g c = λ path is.
+    let p = err_from_is_err_and c.from_residual-in_err-finish_parts.result c.from_residual-in_err-finish_parts.ensures.1 in
+    let given = p.1 in
+    let from = p.2 in
+    c.in_err-finish_parts.ensures.cause path cc
+
+pub returns-clause-cause : goal.returns-clause-cause
+returns-clause-cause g c = λ path is. absurd (c.end_journal.ensures.not_other path is)

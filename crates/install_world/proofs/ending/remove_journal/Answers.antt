@@ -13,6 +13,7 @@ use Rattle.std.specs.FinMap as map
 use Rattle.tree_dev.specs.Trees.{FileTree}
 use Rattle.install_world.proofs.LeavesGone.{file_else}
 use Rattle.install_world.proofs.PlacesFree.{told_changed}
+use Rattle.install_world.proofs.FinishSteps.{images_without}
 use Rattle.install_world.proofs.ending.remove_journal.Goals as goal
 
 pub returns-in_err-barrier-clause-writes_none : goal.returns-in_err-barrier-clause-writes_none
@@ -96,3 +97,15 @@ returns-in_ok-barrier-in-Done-clause-others g c = λ done t told u now path diff
     (c.in_ok-remove_file.ensures.done c.in-Done.is t (barrier_told _ _ c.barrier.ensures.moments ∙ told)).told
     (barrier_told _ _ c.barrier.ensures.moments ∙ told) (sym (barrier_told _ _ c.barrier-in-Done.ensures.moments) ∙ now) in
     ap (λ (w : FileTree). map.get w path) (sym removed) ∙ file_else t c.args.journal.now path differs
+
+pub returns-in_ok-barrier-in-Done-clause-left : goal.returns-in_ok-barrier-in-Done-clause-left
+returns-in_ok-barrier-in-Done-clause-left g c = λ done t told.
+    let first = g.T.Tree.meaning c.args.tree.now in
+    let second = g.T.Tree.meaning c.barrier.new.self in
+    let third = g.T.Tree.meaning c.remove_file.new.self in
+    let settled = writes_none_barrier first first second false c.barrier.ensures.moments c.barrier.ensures.counts (λ failed. absurd cc) (writes_none_start first) in
+    let removed = writes_none_change first second third (FileRemoved c.args.journal.now) false c.remove_file.ensures.moments refl c.remove_file.ensures.counts (λ failed. absurd cc) settled in
+    let now = told_still first second t settled.tells told in
+    let then = told_still first third t removed.tells told in
+    images_without first second third _ t c.args.journal.now (g.met.T.Tree.tells_its_disk c.args.tree.now t told) c.barrier.ensures.moments
+    (c.in_ok-remove_file.ensures.done c.in-Done.is now.0 now.1) (c.in_ok-barrier-in-Done.ensures.done then.0 then.1)

@@ -13,6 +13,7 @@ use Rattle.install_world.proofs.PartFinish.{way_target}
 use Rattle.install_world.proofs.PartDone.{absent_is_none}
 use Rattle.install_world.proofs.PlacesFree.{file_by_kind, if_ok_two, placed_is_done, put_after_take, put_has_place, put_over_file, take_has_place, told_changed, told_same}
 use Rattle.install_world.proofs.WayMoves.{there_by_kind}
+use Rattle.install_world.proofs.FinishSteps.{alike_read, alike_taken, reads_then}
 use Rattle.install_world.proofs.moving.make_way.Goals as goal
 
 pub returns-in_err-kind-clause-writes_none : goal.returns-in_err-kind-clause-writes_none
@@ -81,3 +82,16 @@ returns-clause-fits g c = if_ok_two c.rename.result _ _ _
           (put_after_take way number target c.args.places.now are part t on at_target there none),
     ))
     c.rename.ensures.answer c.rename.ensures.done
+
+pub returns-in_err-kind-clause-alike : goal.returns-in_err-kind-clause-alike
+returns-in_err-kind-clause-alike g c = λ t told project journal number target are part there stands.
+    alike_read project journal _ _ t _ (g.met.T.Tree.tells_its_disk c.args.tree.now t told) c.stat.ensures.only_read
+
+pub returns-then-free-clause-alike : goal.returns-then-free-clause-alike
+returns-then-free-clause-alike g c = λ t told project journal number target are part there stands.
+    alike_read project journal _ _ t _ (g.met.T.Tree.tells_its_disk c.args.tree.now t told) c.stat.ensures.only_read
+
+pub returns-clause-alike : goal.returns-clause-alike
+returns-clause-alike g c = λ t told project journal number target are part there stands.
+    alike_taken project journal number target c.args.places.now are part t stands _ _ c.rename.ensures.moments
+    (reads_then _ _ t _ (g.met.T.Tree.tells_its_disk c.args.tree.now t told) c.stat.ensures.only_read) (inr there)

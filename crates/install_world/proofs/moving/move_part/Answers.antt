@@ -11,6 +11,7 @@ use Rattle.install_world.proofs.RemovalRules.{writes_none_on, writes_none_read, 
 use Rattle.install_world.proofs.WayMoves.{read_through, staged_under, there_by_kind}
 use Rattle.install_world.proofs.PlacesFree.{file_by_kind, no_file_by_kind}
 use Rattle.install_world.specs.Moving.{HasRoom}
+use Rattle.install_world.proofs.FinishSteps.{alike_read}
 use Rattle.install_world.proofs.moving.move_part.Goals as goal
 
 pub returns-then-gone-clause-through : goal.returns-then-gone-clause-through
@@ -123,3 +124,27 @@ returns-in_default-clause-fits g c = IfOk-weaker c.put-in_default.result _ _
     (sym (no_file_by_kind t c.args.places.now.staged c.in_ok-stat.field-0 (c.in_ok-stat.ensures.kind t told) c.in_default.not-File))
     (subst (λ mark. HasRoom mark c.args.places.now t) c.if-gone.false room))
     c.put-in_default.ensures.fits
+
+pub returns-then-gone-clause-alike : goal.returns-then-gone-clause-alike
+returns-then-gone-clause-alike g c = λ t told project journal number target are part is stands.
+    c.take_away.ensures.alike t told project journal number target are part (is ∙ c.if-gone.true) stands
+
+pub returns-in_err-stat-clause-alike : goal.returns-in_err-stat-clause-alike
+returns-in_err-stat-clause-alike g c = λ t told project journal number target are part is stands.
+    alike_read project journal _ _ t _ (g.met.T.Tree.tells_its_disk c.args.tree.now t told) c.stat.ensures.only_read
+
+pub returns-in-Absent-clause-alike : goal.returns-in-Absent-clause-alike
+returns-in-Absent-clause-alike g c = λ t told project journal number target are part is stands.
+    alike_read project journal _ _ t _ (g.met.T.Tree.tells_its_disk c.args.tree.now t told) c.stat.ensures.only_read
+
+pub returns-in-File-clause-alike : goal.returns-in-File-clause-alike
+returns-in-File-clause-alike g c = λ t told project journal number target are part is stands.
+    c.put.ensures.alike t (c.stat.ensures.only_read.told ∙ told) project journal number target are part (is ∙ c.if-gone.false)
+    (there_by_kind t c.args.places.now.staged c.in_ok-stat.field-0 (ap is_root are.staged_is ∙ staged_under project number)
+    (c.in_ok-stat.ensures.kind t told) (λ absent. let file = c.in-File.is in absurd cc)) stands
+
+pub returns-in_default-clause-alike : goal.returns-in_default-clause-alike
+returns-in_default-clause-alike g c = λ t told project journal number target are part is stands.
+    c.put-in_default.ensures.alike t (c.stat.ensures.only_read.told ∙ told) project journal number target are part (is ∙ c.if-gone.false)
+    (there_by_kind t c.args.places.now.staged c.in_ok-stat.field-0 (ap is_root are.staged_is ∙ staged_under project number)
+    (c.in_ok-stat.ensures.kind t told) c.in_default.not-Absent) stands

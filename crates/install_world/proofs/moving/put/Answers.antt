@@ -5,6 +5,8 @@ use Rattle.install_world.proofs.RemovalRules.{cause_of, writes_none_change}
 use Rattle.install_world.proofs.WayMoves.{put_through}
 use Rattle.tree_dev.specs.declared.change.Change.TheVariants as changes
 use Rattle.install_world.proofs.PlacesFree.{placed_is_done}
+use Rattle.tree_dev.specs.Disk.{reading}
+use Rattle.install_world.proofs.FinishSteps.{alike_on, alike_put, stands_then}
 use Rattle.install_world.proofs.moving.put.Goals as goal
 
 pub returns-in_err-make_way-clause-through : goal.returns-in_err-make_way-clause-through
@@ -47,3 +49,18 @@ returns-in-Done-clause-fits g c = IfOk-weaker c.rename.result _ _
     placed_is_done now.0 (changes.Renamed c.args.places.now.staged c.args.places.now.target) answer (is now.0 now.1)
     ((c.in_ok-make_way.ensures.fits t told way number target are part on there leaf room).1 now.0 now.1))
     c.rename.ensures.answer
+
+pub returns-in_err-make_way-clause-alike : goal.returns-in_err-make_way-clause-alike
+returns-in_err-make_way-clause-alike g c = λ t told project journal number target are part stays there stands.
+    c.make_way.ensures.alike t told project journal number target are part there stands
+
+pub returns-in-Misplaced-clause-alike : goal.returns-in-Misplaced-clause-alike
+returns-in-Misplaced-clause-alike g c = λ t told project journal number target are part stays there stands.
+    c.make_way.ensures.alike t told project journal number target are part there stands
+
+pub returns-in-Done-clause-alike : goal.returns-in-Done-clause-alike
+returns-in-Done-clause-alike g c = λ t told project journal number target are part stays there stands.
+    let mid = reading (g.T.Tree.meaning c.make_way.new.tree).disks.now in
+    let first = c.make_way.ensures.alike t told project journal number target are part there stands in
+    alike_on project journal t mid _ first
+    (alike_put project journal number target c.args.places.now are part mid (stands_then project journal t mid stands first) _ _ c.rename.ensures.moments refl stays)

@@ -11,6 +11,7 @@ use Rattle.install_world.proofs.FlightLaws.{target_under}
 use Rattle.install_world.proofs.PartFinish.{way_target}
 use Rattle.install_world.proofs.PlacesFree.{placed_is_done, take_has_place}
 use Rattle.install_world.proofs.WayMoves.{there_by_kind}
+use Rattle.install_world.proofs.FinishSteps.{alike_read, alike_taken, reads_then}
 use Rattle.install_world.proofs.moving.take_away.Goals as goal
 
 pub returns-in_err-stat-clause-writes_none : goal.returns-in_err-stat-clause-writes_none
@@ -68,3 +69,16 @@ returns-in_default-clause-fits g c = IfOk-weaker c.rename.result _ _
     placed_is_done t (changes.Renamed c.args.places.now.target c.args.places.now.kept) answer (is t (c.stat.ensures.only_read.told ∙ told))
     (take_has_place way number target c.args.places.now are part t on there (room.free there (inl refl))))
     c.rename.ensures.answer
+
+pub returns-in_err-stat-clause-alike : goal.returns-in_err-stat-clause-alike
+returns-in_err-stat-clause-alike g c = λ t told project journal number target are part gone stands.
+    alike_read project journal _ _ t _ (g.met.T.Tree.tells_its_disk c.args.tree.now t told) c.stat.ensures.only_read
+
+pub returns-in-Absent-clause-alike : goal.returns-in-Absent-clause-alike
+returns-in-Absent-clause-alike g c = λ t told project journal number target are part gone stands.
+    alike_read project journal _ _ t _ (g.met.T.Tree.tells_its_disk c.args.tree.now t told) c.stat.ensures.only_read
+
+pub returns-in_default-clause-alike : goal.returns-in_default-clause-alike
+returns-in_default-clause-alike g c = λ t told project journal number target are part gone stands.
+    alike_taken project journal number target c.args.places.now are part t stands _ _ c.rename.ensures.moments
+    (reads_then _ _ t _ (g.met.T.Tree.tells_its_disk c.args.tree.now t told) c.stat.ensures.only_read) (inl gone)

@@ -3,7 +3,10 @@ use Rattle.std.proofs.lemmas.Result.{err_from_is_err_and}
 use Rattle.tree_dev.proofs.Stretches.{through_from}
 use Rattle.install_world.specs.Moving.{ArePlaces, IsOnWay}
 use Rattle.install_world.proofs.PartDone.{told_still}
-use Rattle.install_world.proofs.PartFinish.{done_then_moved, done_then_removed, steps_then, way_apart, way_number, way_reads, way_target}
+use Rattle.tree_dev.specs.Disk.{reading}
+use Rattle.install_world.specs.InFlight.{IsPartDone}
+use Rattle.install_world.proofs.FinishSteps.{alike_ready, alike_same, alike_then, ready_done, stands_apart, stands_number, stands_target}
+use Rattle.install_world.proofs.PartFinish.{done_then_moved, steps_then, way_reads, way_target}
 use Rattle.install_world.proofs.RemovalRules.{writes_none_on, writes_none_start}
 use Rattle.tree_dev.proofs.Stretches.{through_ends}
 use Rattle.install_world.proofs.RoomMade.{kept_is_under}
@@ -67,13 +70,62 @@ returns-in-Done-clause-done g c = λ t told is.
     c.in_ok-move_part.ensures.done c.in-Done.is now.0 now.1 c.args.project.now c.args.number c.args.target.now (c.in_ok-places.ensures is)
 
 pub returns-in-Done-clause-others : goal.returns-in-Done-clause-others
-returns-in-Done-clause-others g c = λ t told way same part on j other differs there done.
-    let are = c.in_ok-places.ensures (way_target way t on c.args.number c.args.target.now part) in
-    let removed = c.prepare_part.ensures.removes t told way c.args.number same part on in
-    done_then_moved c.args.project.now c.args.number j c.args.target.now other c.in_ok-places.places are (way_target way t on j other there)
-    (way_number way t on c.args.number c.args.target.now part) (way_number way t on j other there) differs
-    (way_apart way t on c.args.number j c.args.target.now other differs part there) _ _ c.move_part.ensures.moves other.gone
-    (done_then_removed c.args.project.now _ other.gone j other t _ removed done)
+returns-in-Done-clause-others g c = λ t told journal stands part j other differs there done.
+    let are = c.in_ok-places.ensures (stands_target c.args.project.now journal t stands c.args.number c.args.target.now part) in
+    let apart = stands_apart c.args.project.now journal t stands c.args.number j c.args.target.now other differs part there in
+    let disk = g.met.T.Tree.tells_its_disk c.args.tree.now t told in
+    done_then_moved c.args.project.now c.args.number j c.args.target.now other c.in_ok-places.places are (stands_target c.args.project.now journal t stands j other there)
+    (stands_number c.args.project.now journal t stands c.args.number c.args.target.now part) (stands_number c.args.project.now journal t stands j other there) differs
+    apart _ _ c.move_part.ensures.moves other.gone
+    (ready_done c.args.project.now c.args.number c.args.target.now c.in_ok-places.places are _ _ c.prepare_part.ensures.ready other.gone j other apart
+    (subst (IsPartDone other.gone c.args.project.now j other) disk.reads done))
+
+pub returns-in_err-places-clause-alike : goal.returns-in_err-places-clause-alike
+returns-in_err-places-clause-alike g c = λ t told journal stands part.
+    alike_same c.args.project.now journal t _ (sym (g.met.T.Tree.tells_its_disk c.args.tree.now t told).reads)
+
+pub returns-in_err-prepare_part-clause-alike : goal.returns-in_err-prepare_part-clause-alike
+returns-in_err-prepare_part-clause-alike g c = λ t told journal stands part.
+    alike_ready c.args.project.now c.args.number c.args.target.now c.in_ok-places.places
+    (c.in_ok-places.ensures (stands_target c.args.project.now journal t stands c.args.number c.args.target.now part)) journal t _ (g.T.Tree.meaning c.args.tree.now)
+    (g.met.T.Tree.tells_its_disk c.args.tree.now t told) c.prepare_part.ensures.ready
+
+pub returns-in_err-move_part-clause-alike : goal.returns-in_err-move_part-clause-alike
+returns-in_err-move_part-clause-alike g c = λ t told journal stands part.
+    let are = c.in_ok-places.ensures (stands_target c.args.project.now journal t stands c.args.number c.args.target.now part) in
+    let second = g.T.Tree.meaning c.prepare_part.new.tree in
+    let now = told_still (g.T.Tree.meaning c.args.tree.now) second t c.prepare_part.ensures.writes_none.tells told in
+    let first = alike_ready c.args.project.now c.args.number c.args.target.now c.in_ok-places.places are journal t (reading second.disks.now) (g.T.Tree.meaning c.args.tree.now)
+    (g.met.T.Tree.tells_its_disk c.args.tree.now t told) c.prepare_part.ensures.ready in
+    alike_then c.args.project.now journal t now.0 _ second (g.met.T.Tree.tells_its_disk c.prepare_part.new.tree now.0 now.1) first stands
+    (λ then. c.move_part.ensures.alike now.0 now.1 c.args.project.now journal c.args.number c.args.target.now are part refl then)
+
+pub returns-in-Done-clause-alike : goal.returns-in-Done-clause-alike
+returns-in-Done-clause-alike g c = λ t told journal stands part.
+    let are = c.in_ok-places.ensures (stands_target c.args.project.now journal t stands c.args.number c.args.target.now part) in
+    let second = g.T.Tree.meaning c.prepare_part.new.tree in
+    let now = told_still (g.T.Tree.meaning c.args.tree.now) second t c.prepare_part.ensures.writes_none.tells told in
+    let first = alike_ready c.args.project.now c.args.number c.args.target.now c.in_ok-places.places are journal t (reading second.disks.now) (g.T.Tree.meaning c.args.tree.now)
+    (g.met.T.Tree.tells_its_disk c.args.tree.now t told) c.prepare_part.ensures.ready in
+    alike_then c.args.project.now journal t now.0 _ second (g.met.T.Tree.tells_its_disk c.prepare_part.new.tree now.0 now.1) first stands
+    (λ then. c.move_part.ensures.alike now.0 now.1 c.args.project.now journal c.args.number c.args.target.now are part refl then)
+
+pub returns-in-Misplaced-clause-alike : goal.returns-in-Misplaced-clause-alike
+returns-in-Misplaced-clause-alike g c = λ t told journal stands part.
+    let are = c.in_ok-places.ensures (stands_target c.args.project.now journal t stands c.args.number c.args.target.now part) in
+    let second = g.T.Tree.meaning c.prepare_part.new.tree in
+    let now = told_still (g.T.Tree.meaning c.args.tree.now) second t c.prepare_part.ensures.writes_none.tells told in
+    let first = alike_ready c.args.project.now c.args.number c.args.target.now c.in_ok-places.places are journal t (reading second.disks.now) (g.T.Tree.meaning c.args.tree.now)
+    (g.met.T.Tree.tells_its_disk c.args.tree.now t told) c.prepare_part.ensures.ready in
+    alike_then c.args.project.now journal t now.0 _ second (g.met.T.Tree.tells_its_disk c.prepare_part.new.tree now.0 now.1) first stands
+    (λ then. c.move_part.ensures.alike now.0 now.1 c.args.project.now journal c.args.number c.args.target.now are part refl then)
+
+pub returns-in_err-prepare_part-clause-cause : goal.returns-in_err-prepare_part-clause-cause
+returns-in_err-prepare_part-clause-cause g c = λ path is.
+    let p = err_from_is_err_and c.from_residual-in_err-prepare_part.result c.from_residual-in_err-prepare_part.ensures.1 in
+    let given = p.1 in
+    let from = p.2 in
+    c.in_err-prepare_part.ensures.cause path cc
 
 pub returns-in_err-places-clause-fits : goal.returns-in_err-places-clause-fits
 returns-in_err-places-clause-fits g c = let p = err_from_is_err_and c.from_residual.result c.from_residual.ensures.1 in rw (p.1, p.2) (λ t told whole way same part each. refl)

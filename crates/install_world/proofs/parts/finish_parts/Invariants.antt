@@ -2,9 +2,11 @@ use Rattle.std.proofs.Common.{◌≡◌, ℕ, ◌<◌, false}
 use Rattle.tree_dev.specs.Device.{OfTold}
 use Rattle.tree_dev.specs.Disk.{reading}
 use Rattle.tree_dev.specs.Steady.{EachImage, IsWhole, Through}
+use Rattle.install_world.specs.Finishing.{FinishesAlike, Stands}
 use Rattle.install_world.specs.InFlight.{IsPart, IsPartDone}
 use Rattle.install_world.specs.Moving.{IsOnWay, Way}
 use Rattle.install_world.specs.Removals.{WritesNone}
+use Rattle.install_world.specs.declared.journal.Journal.{Journal}
 use Rattle.install_world.specs.declared.target.Target.{Target}
 use Rattle.install_world.proofs.parts.finish_parts.Given as goal
 
@@ -16,7 +18,8 @@ invariant-targets g l =
       writes_none : WritesNone before now false;
       through : OfTold before (λ t. IsWhole before.disks.now → (way : Way) → way.project ≡ l.fn.project → way.journal.targets ≡ l.fn.targets
           → EachImage before (IsOnWay way) → Through before now (IsOnWay way));
-      done : OfTold before (λ t. IsWhole before.disks.now → (way : Way) → way.project ≡ l.fn.project → way.journal.targets ≡ l.fn.targets
-          → EachImage before (IsOnWay way) → (j : ℕ) (other : Target) → j < l.number → IsPart l.fn.targets j other
-          → IsPartDone other.gone l.fn.project j other (reading now.disks.now));
+      done : OfTold before (λ t. (journal : Journal) → journal.targets ≡ l.fn.targets → Stands l.fn.project journal t
+          → (j : ℕ) (other : Target) → j < l.number → IsPart l.fn.targets j other → IsPartDone other.gone l.fn.project j other (reading now.disks.now));
+      alike : OfTold before (λ t. (journal : Journal) → journal.targets ≡ l.fn.targets → Stands l.fn.project journal t
+          → FinishesAlike l.fn.project journal t (reading now.disks.now));
     }

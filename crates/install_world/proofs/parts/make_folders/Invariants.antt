@@ -1,6 +1,15 @@
-use Rattle.std.proofs.Common.{false}
+use Rattle.std.proofs.Common.{◌≡◌, ◌++◌, false, take}
+use Rattle.tree_dev.specs.Disk.{reading}
+use Rattle.install_world.specs.Finishing.{OnlyMade}
 use Rattle.install_world.specs.Removals.{WritesNone}
 use Rattle.install_world.proofs.parts.make_folders.Given as goal
 
+-- the folders of the first names are made, and the path has come as far
 abbrev pub invariant-loop-name : goal.invariant-loop-name
-invariant-loop-name g l = WritesNone (g.T.Tree.meaning l.fn.tree) (g.T.Tree.meaning l.tree) false
+invariant-loop-name g l =
+    let meaning = g.T.Tree.meaning in
+    record {
+      writes_none : WritesNone (meaning l.fn.tree) (meaning l.tree) false;
+      makes : OnlyMade (l.fn.project ++ l.fn.path) (reading (meaning l.fn.tree).disks.now) (reading (meaning l.tree).disks.now);
+      at : l.at ≡ l.fn.project ++ take l.name-index l.name-items;
+    }

@@ -2,6 +2,7 @@ use Rattle.std.proofs.lemmas.Result.{err_from_is_err_and}
 use Rattle.install_world.proofs.PartFinish.{shows_folder}
 use Rattle.install_world.proofs.RemovalRules.{writes_none_on, writes_none_read, writes_none_start}
 use Rattle.std.proofs.Common.{refl}
+use Rattle.install_world.proofs.FinishSteps.{made_on, made_read}
 use Rattle.install_world.proofs.parts.make_up_to.Goals as goal
 
 pub returns-in_err-stat-clause-writes_none : goal.returns-in_err-stat-clause-writes_none
@@ -20,7 +21,7 @@ returns-in-Folder-clause-still g c = λ t told there. c.stat.ensures.only_read.d
 
 pub returns-in_default-clause-writes_none : goal.returns-in_default-clause-writes_none
 returns-in_default-clause-writes_none g c =
-    writes_none_on _ _ _ _ c.make_above.ensures (writes_none_read _ _ _ _ c.in_ok-stat.ensures.only_read (writes_none_start _))
+    writes_none_on _ _ _ _ c.make_above.ensures.writes_none (writes_none_read _ _ _ _ c.in_ok-stat.ensures.only_read (writes_none_start _))
 
 pub returns-in_default-clause-still : goal.returns-in_default-clause-still
 returns-in_default-clause-still g c = λ t told there.
@@ -32,3 +33,12 @@ returns-in_err-stat-clause-fits g c = let p = err_from_is_err_and c.from_residua
 pub returns-in_default-clause-fits : goal.returns-in_default-clause-fits
 returns-in_default-clause-fits g c = λ t told there.
     absurd (c.in_default.not-Folder (shows_folder t c.args.parent.now c.in_ok-stat.field-0 (c.in_ok-stat.ensures.kind t told) there))
+
+pub returns-in_err-stat-clause-makes : goal.returns-in_err-stat-clause-makes
+returns-in_err-stat-clause-makes g c = made_read _ _ _ _ c.stat.ensures.only_read
+
+pub returns-in-Folder-clause-makes : goal.returns-in-Folder-clause-makes
+returns-in-Folder-clause-makes g c = made_read _ _ _ _ c.stat.ensures.only_read
+
+pub returns-in_default-clause-makes : goal.returns-in_default-clause-makes
+returns-in_default-clause-makes g c = made_on _ _ _ _ (made_read _ _ _ _ c.stat.ensures.only_read) c.make_above.ensures.makes

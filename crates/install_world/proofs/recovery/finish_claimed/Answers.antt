@@ -15,7 +15,10 @@ use Rattle.install_world.proofs.Segments.{journal_segment}
 use Rattle.std.proofs.Common.{refl, ℕ, List}
 use Rattle.std.specs.Prelude.{Option}
 use Rattle.tree_dev.specs.Changes.{is_root}
-use Rattle.install_world.specs.Recovery.{IsReadable}
+use Rattle.std.proofs.Common.{inl}
+use Rattle.tree_dev.specs.declared.limits.LimitKind.TheVariants.{FileBytes}
+use Rattle.install_world.specs.Recovery.{IsLong, IsReadable}
+use Rattle.install_world.proofs.RecoveryCauses.{other_entry}
 use Rattle.install_world.specs.declared.recovery_fault.Recovered.{Recovered}
 use Rattle.install_world.proofs.RecoveryFits.{journal_readable, journal_under, refused_again}
 use Rattle.install_world.proofs.recovery.finish_claimed.Goals as goal
@@ -69,7 +72,7 @@ returns-in-None-clause-found g c = IfOk-weaker c.take_install_away.result _ _
 
 pub returns-in-None-clause-finished : goal.returns-in-None-clause-finished
 returns-in-None-clause-finished g c = on_ok_weaker c.take_install_away.result
-    (λ only t told surroundings old new files is_work each finished.
+    (λ only t told files is_work finished.
     let is_at = at_is c.args.project.now c.args.work.now c.in_ok-at.at is_work c.in_ok-at.ensures in
     let none : map.get t c.in_ok-at.at ≡ None = rw c.in-None.is at (c.in_ok-read_text.ensures.text t told) in
     let nothing : NoJournal c.args.project.now t = record { absent = subst (λ path. map.get t path ≡ None) is_at none } in
@@ -109,13 +112,12 @@ returns-clause-found g c = IfOk-weaker c.finish_text.result _ _
 
 pub returns-clause-finished : goal.returns-clause-finished
 returns-clause-finished g c = on_ok_weaker c.finish_text.result
-    (λ done t told surroundings old new files is_work each finished.
+    (λ done t told files is_work finished.
     let is_at = at_is c.args.project.now c.args.work.now c.in_ok-at.at is_work c.in_ok-at.ensures in
     let file : (map.get t c.in_ok-at.at ≡ Some (File c.in-Some.text)) × (length c.in-Some.text < 2 ^ 64) = rw c.in-Some.is at (c.in_ok-read_text.ensures.text t told) in
-    done t (c.read_text.ensures.only_read.told ∙ told) surroundings old new files is_work is_at
+    done t (c.read_text.ensures.only_read.told ∙ told) files is_work is_at
     (subst (λ bytes. map.get t c.in_ok-at.at ≡ Some (File bytes)) (sym c.as_slice.ensures) file.0)
-    (subst (λ bytes. length bytes < 2 ^ 64) (sym c.as_slice.ensures) file.1)
-    (images_read (IsInFlight c.args.project.now surroundings old new) _ _ _ c.read_text.ensures.only_read each) finished)
+    (subst (λ bytes. length bytes < 2 ^ 64) (sym c.as_slice.ensures) file.1) finished)
     c.finish_text.ensures.finished
 
 pub returns-clause-bad : goal.returns-clause-bad
@@ -157,3 +159,34 @@ returns-clause-fits g c = λ t told surroundings old new is_work stands each can
     (subst (λ bytes. map.get t c.in_ok-at.at ≡ Some (File bytes)) (sym c.as_slice.ensures) file.0)
     (subst (λ bytes. length bytes < 2 ^ 64) (sym c.as_slice.ensures) file.1)
     (images_read (IsInFlight c.args.project.now surroundings old new) _ _ _ c.read_text.ensures.only_read each)
+
+pub returns-in_err-read_text-clause-other : goal.returns-in_err-read_text-clause-other
+returns-in_err-read_text-clause-other g c = λ path is.
+    let p = err_from_is_err_and c.from_residual-in_err-read_text.result c.from_residual-in_err-read_text.ensures.1 in
+    let given = p.1 in
+    let from = p.2 in
+    let found = c.in_err-read_text.ensures.other path cc in
+    λ t told is_work.
+    let is_at = at_is c.args.project.now c.args.work.now c.in_ok-at.at is_work c.in_ok-at.ensures in
+    other_entry c.args.project.now path t (found.0 ∙ is_at) (found.1 t told (ap is_root (found.0 ∙ is_at) ∙ journal_under c.args.project.now))
+
+pub returns-in_err-read_text-clause-limit : goal.returns-in_err-read_text-clause-limit
+returns-in_err-read_text-clause-limit g c = λ limit is is_work.
+    let p = err_from_is_err_and c.from_residual-in_err-read_text.result c.from_residual-in_err-read_text.ensures.1 in
+    let given = p.1 in
+    let from = p.2 in
+    let found = c.in_err-read_text.ensures.limit limit cc in
+    let is_at = at_is c.args.project.now c.args.work.now c.in_ok-at.at is_work c.in_ok-at.ensures in
+    (found.0 ∙ ap FileBytes is_at, (found.1.0, λ t told. subst (λ at. IsLong at t) is_at (found.1.1 t told (ap is_root is_at ∙ journal_under c.args.project.now))))
+
+pub returns-in-None-clause-other : goal.returns-in-None-clause-other
+returns-in-None-clause-other g c = λ path is. absurd (c.take_install_away.ensures.not_other path is)
+
+pub returns-in-None-clause-limit : goal.returns-in-None-clause-limit
+returns-in-None-clause-limit g c = λ limit is. absurd (c.take_install_away.ensures.not_limit limit is)
+
+pub returns-clause-other : goal.returns-clause-other
+returns-clause-other g c = λ path is t told is_work. record { kind = inl (c.finish_text.ensures.other path is t told) }
+
+pub returns-clause-limit : goal.returns-clause-limit
+returns-clause-limit g c = λ limit is. absurd (c.finish_text.ensures.not_limit limit is)

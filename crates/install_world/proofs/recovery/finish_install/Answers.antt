@@ -16,6 +16,7 @@ use Rattle.install_world.proofs.Segments.{install_segment}
 use Rattle.std.proofs.Common.{refl, inl, inr}
 use Rattle.std.specs.Prelude.{◌⊎◌}
 use Rattle.install_world.proofs.RecoveryFits.{work_by_kind}
+use Rattle.install_world.proofs.FinishSteps.{leaf_shown}
 use Rattle.install_world.proofs.recovery.finish_install.Goals as goal
 
 pub child-requires : goal.child-requires
@@ -49,7 +50,7 @@ returns-in-Absent-clause-found g c = λ t told.
     nothing_to_do c.args.project.now t none
 
 pub returns-in-Absent-clause-finished : goal.returns-in-Absent-clause-finished
-returns-in-Absent-clause-finished g c = λ t told surroundings old new files each finished.
+returns-in-Absent-clause-finished g c = λ t told files finished.
     let none = subst (λ at. map.get t at ≡ None) c.in_ok-work.ensures (absent_is_none t c.in_ok-work.work c.in_ok-stat.field-0 (c.in_ok-stat.ensures.kind t told) c.in-Absent.is) in
     let same = reads_same _ _ _ c.stat.ensures.only_read ∙ sym (g.met.T.Tree.tells_its_disk c.args.tree.now t told).reads in
     subst (λ now. HasFiles c.args.project.now now files) (sym same)
@@ -88,17 +89,14 @@ returns-in-Absent-clause-settled g c = λ t told there.
 
 pub returns-in-Folder-clause-finished : goal.returns-in-Folder-clause-finished
 returns-in-Folder-clause-finished g c = on_ok_weaker c.finish_claimed.result
-    (λ done t told surroundings old new files each finished.
-    (done t (c.stat.ensures.only_read.told ∙ told) surroundings old new files c.in_ok-work.ensures
-    (images_read (IsInFlight c.args.project.now surroundings old new) _ _ _ c.stat.ensures.only_read each) finished
+    (λ done t told files finished.
+    (done t (c.stat.ensures.only_read.told ∙ told) files c.in_ok-work.ensures finished
     (reading (g.T.Tree.meaning c.finish_claimed.new.tree).disks.now) (reading_is_image (g.T.Tree.meaning c.finish_claimed.new.tree).disks.now)).has_files)
     c.finish_claimed.ensures.finished
 
 pub returns-in-Folder-clause-settled : goal.returns-in-Folder-clause-settled
 returns-in-Folder-clause-settled g c = on_ok_weaker c.finish_claimed.result
-    (λ done t told there surroundings old new files each finished.
-    done t (c.stat.ensures.only_read.told ∙ told) surroundings old new files c.in_ok-work.ensures
-    (images_read (IsInFlight c.args.project.now surroundings old new) _ _ _ c.stat.ensures.only_read each) finished)
+    (λ done t told there files finished. done t (c.stat.ensures.only_read.told ∙ told) files c.in_ok-work.ensures finished)
     c.finish_claimed.ensures.finished
 
 pub returns-in-Folder-clause-gone : goal.returns-in-Folder-clause-gone
@@ -139,3 +137,19 @@ returns-in_default-clause-fits g c = λ t told surroundings old new each can.
       | inl absent ↦ absurd (c.in_default.not-Absent absent)
       | inr folder ↦ absurd (c.in_default.not-Folder folder)
     ]
+
+pub returns-in-Folder-clause-other : goal.returns-in-Folder-clause-other
+returns-in-Folder-clause-other g c = λ path is t told. c.finish_claimed.ensures.other path is t told c.in_ok-work.ensures
+
+pub returns-in-Folder-clause-limit : goal.returns-in-Folder-clause-limit
+returns-in-Folder-clause-limit g c = λ limit is.
+    let found = c.finish_claimed.ensures.limit limit is c.in_ok-work.ensures in
+    (found.0, (only_read_on c.in_ok-stat.ensures.only_read found.1.0, λ t told. found.1.1 t (c.stat.ensures.only_read.told ∙ told)))
+
+pub returns-in_default-clause-other : goal.returns-in_default-clause-other
+returns-in_default-clause-other g c = λ path is t told. record {
+  kind = inl (
+      let leaf = leaf_shown t c.in_ok-work.work c.in_ok-stat.field-0 (c.in_ok-stat.ensures.kind t (sym c.stat.ensures.only_read.told ∙ told))
+      c.in_default.not-Folder c.in_default.not-Absent in
+      cc);
+}

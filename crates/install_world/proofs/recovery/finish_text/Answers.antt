@@ -5,14 +5,18 @@ use Rattle.tree_dev.specs.Device.{only_read_refl}
 use Rattle.tree_dev.specs.Disk.{Disks}
 use Rattle.tree_dev.specs.Steady.{IsWhole}
 use Rattle.tree_dev.specs.declared.entry.Entry.TheVariants.{File}
-use Rattle.tree_dev.proofs.Stretches.{through_ends, through_from, through_on}
+use Rattle.tree_dev.proofs.Stretches.{through_from, through_on}
 use Rattle.tree_dev.proofs.Whole.{settled_is_whole, through_then_barrier}
 use Rattle.install_world.specs.InFlight.{IsInFlight}
 use Rattle.install_world.specs.Moving.{IsOnWay}
 use Rattle.install_world.proofs.JournalEnds.{new_through, then_work_goes}
-use Rattle.install_world.proofs.RecoveryRules.{bad_journal_of, image_reads, new_files, no_bad_part, no_bad_removal, settled_images, way_begins, way_of, writes_none_parting, writes_none_removing, writes_none_text}
-use Rattle.install_world.specs.Recovery.{IsNewProject, fault_of_journal}
-use Rattle.install_world.specs.declared.recovery_fault.RecoverFault.TheVariants.{BadJournal}
+use Rattle.install_world.proofs.RecoveryRules.{bad_journal_of, image_reads, no_bad_part, no_bad_removal, settled_images, way_begins, way_of, writes_none_parting, writes_none_removing, writes_none_text}
+use Rattle.install_world.specs.Recovery.{fault_of_journal, fault_of_part}
+use Rattle.install_world.specs.declared.recovery_fault.RecoverFault.TheVariants.{BadJournal, OtherEntry}
+use Rattle.install_world.specs.InFlight.{finished_by}
+use Rattle.install_world.proofs.FinishSteps.{finished_project, recovered_goes, stands_by}
+use Rattle.install_world.proofs.PlacesFree.{barrier_told}
+use Rattle.install_world.proofs.RecoveryCauses.{no_limit_journal, no_limit_part, no_limit_removal, no_other_journal, no_other_removal, other_part}
 use Rattle.install_world.proofs.RemovalRules.{writes_none_barrier, writes_none_on, writes_none_start}
 use Rattle.install_world.specs.declared.recovery_fault.Recovered.{Recovered}
 use Rattle.std.proofs.Common.{refl}
@@ -125,30 +129,16 @@ returns-clause-through g c = λ t told surroundings old new is_work is_at there 
     (new_through way third _ (then_work_goes way c.args.work.now third _ is_work c.remove_folder.ensures.removes done))
 
 pub returns-clause-finished : goal.returns-clause-finished
-returns-clause-finished g c = λ t told surroundings old new files is_work is_at there small each finished.
-    let first = g.T.Tree.meaning c.args.tree.now in
-    let second = g.T.Tree.meaning c.barrier.new.self in
-    let disk = g.met.T.Tree.tells_its_disk c.args.tree.now t told in
-    let way = way_of c.args.project.now surroundings old new c.in_ok-journal.journal in
-    let on = way_begins c.args.project.now surroundings old new c.in_ok-journal.journal c.args.text.now t
-    (image_reads (IsInFlight c.args.project.now surroundings old new) first t disk each)
-    (subst (λ path. map.get t path ≡ Some (File c.args.text.now)) is_at there) small c.in_ok-journal.ensures.says in
-    let settles = c.in_ok-barrier.ensures.done t told in
-    let each_second = settled_images (IsOnWay way) first second t disk settles on in
-    let whole = subst (λ (disks : Disks). IsWhole disks.now) (sym settles.disks) (settled_is_whole first.disks) in
-    let start = through_then_barrier (IsInFlight c.args.project.now surroundings old new) first first second c.barrier.ensures.moments
-    (through_from (IsInFlight c.args.project.now surroundings old new) first each) in
-    let told_second = settles.told ∙ told in
-    let done = c.in_ok-finish_journal.ensures.settled t told_second whole way refl refl is_at each_second in
+returns-clause-finished g c = λ t told files is_work is_at there small finished.
+    let project = c.args.project.now in
+    let journal = c.in_ok-journal.journal in
+    let third = g.T.Tree.meaning c.finish_journal.new.tree in
+    let fourth = g.T.Tree.meaning c.remove_folder.new.tree in
+    let stands = stands_by project journal t c.args.text.now (subst (λ path. map.get t path ≡ Some (File c.args.text.now)) is_at there) small c.in_ok-journal.ensures.says in
+    let done = c.in_ok-finish_journal.ensures.finished t (barrier_told _ _ c.barrier.ensures.moments ∙ told) is_at stands in
     λ left image.
-    let now = through_ends (IsNewProject way) (g.T.Tree.meaning c.finish_journal.new.tree) (g.T.Tree.meaning c.remove_folder.new.tree)
-    (then_work_goes way c.args.work.now (g.T.Tree.meaning c.finish_journal.new.tree) (g.T.Tree.meaning c.remove_folder.new.tree) is_work c.remove_folder.ensures.removes done) left image in
-    record {
-      no_journal = now.no_journal;
-      has_files = new_files c.args.project.now surroundings old new files c.in_ok-journal.journal c.args.text.now t left
-          (image_reads (IsInFlight c.args.project.now surroundings old new) first t disk each)
-          (subst (λ path. map.get t path ≡ Some (File c.args.text.now)) is_at there) small c.in_ok-journal.ensures.says finished now.files;
-    }
+    finished_project project journal files t left stands.has finished
+    (recovered_goes project c.args.work.now (finished_by project journal.targets t) third fourth is_work c.remove_folder.ensures.removes done left image)
 
 pub returns-in_err-finish_journal-clause-bad : goal.returns-in_err-finish_journal-clause-bad
 returns-in_err-finish_journal-clause-bad g c = λ place is.
@@ -215,3 +205,46 @@ returns-in_err-remove_folder-clause-fits g c =
     (c.in_err-remove_folder.ensures.never_vanished then.0 then.1
     (subst (λ path. map.get then.0 path ≡ Some Folder) (sym is_work)
     (c.in_ok-finish_journal.ensures.work t told_second whole way refl refl is_at each_second then.0 then.1))))
+
+pub returns-in_err-journal-clause-other : goal.returns-in_err-journal-clause-other
+returns-in_err-journal-clause-other g c = λ path is.
+    let p = err_from_is_err_and c.from_residual.result c.from_residual.ensures.1 in
+    let given = p.1 in
+    let from = p.2 in
+    absurd (no_other_journal c.in_err-journal.field-0.0 path cc)
+
+pub returns-in_err-journal-clause-not_limit : goal.returns-in_err-journal-clause-not_limit
+returns-in_err-journal-clause-not_limit g c = λ limit is.
+    let p = err_from_is_err_and c.from_residual.result c.from_residual.ensures.1 in
+    let given = p.1 in
+    let from = p.2 in
+    no_limit_journal c.in_err-journal.field-0.0 limit cc
+
+pub returns-in_err-finish_journal-clause-other : goal.returns-in_err-finish_journal-clause-other
+returns-in_err-finish_journal-clause-other g c = λ path is.
+    let p = err_from_is_err_and c.from_residual-in_err-finish_journal.result c.from_residual-in_err-finish_journal.ensures.1 in
+    let given = p.1 in
+    let from = p.2 in
+    let same : fault_of_part c.in_err-finish_journal.field-0.0 ≡ OtherEntry path = cc in
+    c.in_err-finish_journal.ensures.cause path (ap Err (other_part c.in_err-finish_journal.field-0.0 path same))
+
+pub returns-in_err-finish_journal-clause-not_limit : goal.returns-in_err-finish_journal-clause-not_limit
+returns-in_err-finish_journal-clause-not_limit g c = λ limit is.
+    let p = err_from_is_err_and c.from_residual-in_err-finish_journal.result c.from_residual-in_err-finish_journal.ensures.1 in
+    let given = p.1 in
+    let from = p.2 in
+    no_limit_part c.in_err-finish_journal.field-0.0 limit cc
+
+pub returns-in_err-remove_folder-clause-other : goal.returns-in_err-remove_folder-clause-other
+returns-in_err-remove_folder-clause-other g c = λ path is.
+    let p = err_from_is_err_and c.from_residual-in_err-remove_folder.result c.from_residual-in_err-remove_folder.ensures.1 in
+    let given = p.1 in
+    let from = p.2 in
+    absurd (no_other_removal c.in_err-remove_folder.field-0.0 path cc)
+
+pub returns-in_err-remove_folder-clause-not_limit : goal.returns-in_err-remove_folder-clause-not_limit
+returns-in_err-remove_folder-clause-not_limit g c = λ limit is.
+    let p = err_from_is_err_and c.from_residual-in_err-remove_folder.result c.from_residual-in_err-remove_folder.ensures.1 in
+    let given = p.1 in
+    let from = p.2 in
+    no_limit_removal c.in_err-remove_folder.field-0.0 limit cc

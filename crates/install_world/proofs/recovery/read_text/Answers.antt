@@ -2,7 +2,13 @@ use Rattle.std.proofs.Common.{◌∙◌, ℕ, List, Option, sym, arith}
 use Rattle.tree_dev.specs.declared.entry.ReadAnswer.{ReadAnswer}
 use Rattle.std.proofs.lemmas.Result.{err_from_is_err_and}
 use Rattle.install_world.proofs.RecoveryRules.{absent_read, bytes_read, read_failing}
-use Rattle.std.proofs.Common.{refl}
+use Rattle.std.proofs.Common.{◌≡◌, true, false, Some, refl, subst}
+use Rattle.std.specs.Prelude.{◌⊎◌}
+use Rattle.std.specs.FinMap as map
+use Rattle.tree_dev.specs.Trees.{entry_at}
+use Rattle.tree_dev.specs.Changes.{is_leaf, is_root}
+use Rattle.tree_dev.specs.declared.entry.Entry.TheVariants.{Folder}
+use Rattle.install_world.proofs.RecoveryCauses.{long_read, no_file_read, no_limit_tree, no_other_tree}
 use Rattle.install_world.proofs.RecoveryFits.{no_folder_read, not_too_long, refused_tree}
 use Rattle.install_world.proofs.recovery.read_text.Goals as goal
 
@@ -45,3 +51,33 @@ returns-in_err-copy-in-TooLong-clause-fits g c = let p = err_from_is_err_and c.f
 pub returns-in_ok-copy-in-TooLong-clause-fits : goal.returns-in_ok-copy-in-TooLong-clause-fits
 returns-in_ok-copy-in-TooLong-clause-fits g c = λ t told under readable.
     absurd (not_too_long t c.args.at.now under readable c.in_ok-text.field-0 (c.in_ok-text.ensures.answer t told) c.in-TooLong.is)
+
+pub returns-in_err-text-clause-other : goal.returns-in_err-text-clause-other
+returns-in_err-text-clause-other g c = λ path is.
+    let p = err_from_is_err_and c.from_residual.result c.from_residual.ensures.1 in
+    let given = p.1 in
+    let from = p.2 in
+    absurd (no_other_tree c.in_err-text.field-0.0 path cc)
+
+pub returns-in_err-text-clause-limit : goal.returns-in_err-text-clause-limit
+returns-in_err-text-clause-limit g c = λ limit is.
+    let p = err_from_is_err_and c.from_residual.result c.from_residual.ensures.1 in
+    let given = p.1 in
+    let from = p.2 in
+    absurd (no_limit_tree c.in_err-text.field-0.0 limit cc)
+
+pub returns-in_ok-copy-in-NotFile-clause-other : goal.returns-in_ok-copy-in-NotFile-clause-other
+returns-in_ok-copy-in-NotFile-clause-other g c = λ path is.
+    let copied = c.in_ok-copy-in-NotFile.ensures in
+    let same : path ≡ c.args.at.now = cc in (
+      same,
+      λ t told under.
+          subst (λ at. (is_leaf (entry_at t at) ≡ true) ⊎ (map.get t at ≡ Some Folder)) (sym same)
+          (no_file_read t c.in_ok-text.field-0 c.args.at.now (subst (λ at. is_root at ≡ false) same under)
+          (c.in_ok-text.ensures.answer t (sym c.in_ok-text.ensures.only_read.told ∙ told)) c.in-NotFile.is),
+    )
+
+pub returns-in_ok-copy-in-TooLong-clause-limit : goal.returns-in_ok-copy-in-TooLong-clause-limit
+returns-in_ok-copy-in-TooLong-clause-limit g c = λ limit is.
+    let copied = c.in_ok-copy-in-TooLong.ensures in
+    (cc, (c.in_ok-text.ensures.only_read, λ t told under. long_read t c.in_ok-text.field-0 c.args.at.now under (c.in_ok-text.ensures.answer t told) c.in-TooLong.is))

@@ -12,6 +12,7 @@ use Rattle.install_world.specs.declared.recovery_fault.Recovered.{Recovered}
 use Rattle.std.proofs.Common.{refl, ◌∙◌}
 use Rattle.install_world.proofs.PlacesFree.{barrier_told}
 use Rattle.install_world.proofs.RecoveryFits.{refused_removal}
+use Rattle.install_world.proofs.RecoveryCauses.{no_limit_removal, no_other_removal}
 use Rattle.install_world.proofs.recovery.take_install_away.Goals as goal
 
 pub returns-in_err-barrier-clause-writes_none : goal.returns-in_err-barrier-clause-writes_none
@@ -70,3 +71,17 @@ returns-in_err-remove_folder-clause-fits g c =
     rw (p.1, p.2) (λ t told stands.
     refused_removal (Unit {0}) Recovered c.in_err-remove_folder.field-0.0
     (c.in_err-remove_folder.ensures.never_vanished t (barrier_told _ _ c.barrier.ensures.moments ∙ told) stands))
+
+pub returns-in_err-remove_folder-clause-not_other : goal.returns-in_err-remove_folder-clause-not_other
+returns-in_err-remove_folder-clause-not_other g c = λ path is.
+    let p = err_from_is_err_and c.from_residual-in_err-remove_folder.result c.from_residual-in_err-remove_folder.ensures.1 in
+    let given = p.1 in
+    let from = p.2 in
+    no_other_removal c.in_err-remove_folder.field-0.0 path cc
+
+pub returns-in_err-remove_folder-clause-not_limit : goal.returns-in_err-remove_folder-clause-not_limit
+returns-in_err-remove_folder-clause-not_limit g c = λ limit is.
+    let p = err_from_is_err_and c.from_residual-in_err-remove_folder.result c.from_residual-in_err-remove_folder.ensures.1 in
+    let given = p.1 in
+    let from = p.2 in
+    no_limit_removal c.in_err-remove_folder.field-0.0 limit cc

@@ -1,0 +1,42 @@
+use Rattle.std.proofs.Common.{◌∙◌, refl}
+use Rattle.std.proofs.lemmas.Result.{err_from_is_err_and}
+use Rattle.install_world.proofs.FinishSteps.{made_on, made_read}
+use Rattle.install_world.proofs.RemovalRules.{writes_none_on, writes_none_read, writes_none_start}
+use Rattle.install_world.proofs.parts.make_needed.Goals as goal
+
+pub returns-in_err-needed-clause-writes_none : goal.returns-in_err-needed-clause-writes_none
+returns-in_err-needed-clause-writes_none g c =
+    let p = err_from_is_err_and c.from_residual.result c.from_residual.ensures.1 in
+    rw (p.1, p.2) (writes_none_read _ _ _ _ c.in_err-needed.ensures.only_read (writes_none_start _))
+
+pub returns-in_err-needed-clause-makes : goal.returns-in_err-needed-clause-makes
+returns-in_err-needed-clause-makes g c = made_read _ _ _ _ c.is_to_be_put.ensures.only_read
+
+pub returns-in_err-needed-clause-still : goal.returns-in_err-needed-clause-still
+returns-in_err-needed-clause-still g c = λ t told there. c.is_to_be_put.ensures.only_read.disks
+
+pub returns-in_err-needed-clause-fits : goal.returns-in_err-needed-clause-fits
+returns-in_err-needed-clause-fits g c = let p = err_from_is_err_and c.from_residual.result c.from_residual.ensures.1 in rw (p.1, p.2) (λ t told there. refl)
+
+pub returns-then-needed-clause-writes_none : goal.returns-then-needed-clause-writes_none
+returns-then-needed-clause-writes_none g c =
+    writes_none_on _ _ _ _ c.make_parents.ensures.writes_none (writes_none_read _ _ _ _ c.in_ok-needed.ensures.only_read (writes_none_start _))
+
+pub returns-then-needed-clause-makes : goal.returns-then-needed-clause-makes
+returns-then-needed-clause-makes g c = made_on _ _ _ _ (made_read _ _ _ _ c.is_to_be_put.ensures.only_read) c.make_parents.ensures.makes
+
+pub returns-then-needed-clause-still : goal.returns-then-needed-clause-still
+returns-then-needed-clause-still g c = λ t told there.
+    c.make_parents.ensures.still t (c.is_to_be_put.ensures.only_read.told ∙ told) there ∙ c.is_to_be_put.ensures.only_read.disks
+
+pub returns-then-needed-clause-fits : goal.returns-then-needed-clause-fits
+returns-then-needed-clause-fits g c = λ t told there. c.make_parents.ensures.fits t (c.is_to_be_put.ensures.only_read.told ∙ told) there
+
+pub returns-clause-writes_none : goal.returns-clause-writes_none
+returns-clause-writes_none g c = writes_none_read _ _ _ _ c.in_ok-needed.ensures.only_read (writes_none_start _)
+
+pub returns-clause-makes : goal.returns-clause-makes
+returns-clause-makes g c = made_read _ _ _ _ c.is_to_be_put.ensures.only_read
+
+pub returns-clause-still : goal.returns-clause-still
+returns-clause-still g c = λ t told there. c.is_to_be_put.ensures.only_read.disks
