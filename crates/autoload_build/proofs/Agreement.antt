@@ -1,7 +1,6 @@
 -- Optimised tables open the same file as plain ones for each unambiguous class.
-use Rattle.std.proofs.Common.{◌≡◌, ℕ, Bool, true, List, [], ◌++◌, Option, Some, None, Ok, inl, inr, refl, sym, ap, ◌∙◌, subst}
-use Rattle.std.specs.Prelude.{find, Result}
-use Rattle.std.specs.List.{Contains}
+use Rattle.std.proofs.Common.{◌≡◌, ℕ, true, List, ◌++◌, Option, Some, None, Ok, inl, refl, sym, ◌∙◌, subst}
+use Rattle.std.specs.Prelude.{Result}
 use Rattle.std.specs.Option.{option_or}
 use Rattle.tree_dev.specs.Trees.{FileTree}
 use Rattle.class_paths.specs.Candidates.{candidates_of}
@@ -16,7 +15,7 @@ use Rattle.autoload_build.specs.Answers.{AreFound}
 use Rattle.autoload_build.specs.BuiltTables.{classes_of, tables_of}
 use Rattle.autoload_build.specs.ClassAgreement.{IsCandidateFile, IsDeclaredIn, IsShown, IsUnambiguous, file_in}
 use Rattle.autoload_build.specs.Jobs.{Project, listed_jobs, patterns_of, row_jobs, rows}
-use Rattle.autoload_build.proofs.FoundNames.{IsFoundName, IsShownCandidate, contained, each_member, file_of_has, find_one, found_is_candidate, found_name, has_file_in}
+use Rattle.autoload_build.proofs.FoundNames.{IsShownCandidate, contained, each_member, file_of_has, find_one, found_is_candidate, found_name, has_file_in}
 use Rattle.autoload_build.proofs.LookedUp.{both_parts, listed_in_front}
 use Rattle.autoload_build.proofs.RowWalks.{IsRowWalk, row_walks}
 use Rattle.autoload_build.proofs.WalkedParts.{IsFoundBy, Parts, later_scans, scan_parts}
@@ -48,7 +47,7 @@ module _ (p : Project) (generation left : ℕ) (read shown : FileTree) (listed w
       inl (bytes, file, clear.declares path bytes file)
 
   -- the file that is walked is the one at which the class is looked for
-  found_same : (path : List (List ℕ)) → listed_file (classes_of walked) name ≡ Some path → found_file (has_file shown) (rows p) name ≡ Some path
+  pub found_same : (path : List (List ℕ)) → listed_file (classes_of walked) name ≡ Some path → found_file (has_file shown) (rows p) name ≡ Some path
   found_same path e =
       let one = candidate path e in
       find_one (has_file shown) path paths (has_file_in shown path one.bytes one.there)

@@ -1,6 +1,6 @@
 -- What tables name lies at or below the project's folder.
-use Rattle.std.proofs.Common.{◌≡◌, ℕ, zero, suc, Bool, true, false, not, cond, List, [], ◌∷◌, ◌++◌, length, map, Ok, Err, Some, refl, sym, ap, subst, ◌∙◌, append-nil, append_assoc}
-use Rattle.std.specs.Prelude.{All, Result, filter, reverse}
+use Rattle.std.proofs.Common.{◌≡◌, ℕ, zero, suc, Bool, true, false, not, cond, List, [], ◌∷◌, ◌++◌, length, map, Ok, Some, refl, sym, ap, subst, ◌∙◌, append-nil, append_assoc}
+use Rattle.std.specs.Prelude.{All, filter, reverse}
 use Rattle.std.specs.FinMap.{FinMap, empty_of_len, entries, entries-from_sorted, entries-insert, from_entries, from_sorted, len-entries}
 use Rattle.std.specs.FinMap.Entries.{by_order, put}
 use Rattle.std.specs.List.{AllByRecursion, enumerate_from, flat_map, slice_get}
@@ -19,13 +19,11 @@ use Rattle.class_paths.specs.declared.types.Route.{Route}
 use Rattle.class_paths.specs.declared.types.RouteKind.{RouteKind}
 use Rattle.class_paths.specs.declared.types.RouteKind.TheVariants.{Psr4, Psr0}
 use Rattle.psr_routes.specs.PackageOrder.{Numbered, ordered}
-use Rattle.psr_routes.specs.Routes as routes
 use Rattle.psr_routes.specs.Routes.{Source, classmap_of, files_of, loading_sources_of, package_sources, paths_by, prefixes_of, root_sources, rows_of, rows_of_kind, rows_of_prefix, rows_of_source, sources_of}
 use Rattle.psr_routes.specs.declared.types.Placed.{Placed}
 use Rattle.psr_routes.proofs.PackageLaws.{taken_at}
 use Rattle.class_walk.specs.Walks as walks
 use Rattle.class_walk.specs.Walks.{AreScansOf, Walked, class_scan}
-use Rattle.class_walk.specs.declared.fault.WalkFault.{WalkFault}
 use Rattle.class_walk.specs.declared.job.Scanned.{Scanned}
 use Rattle.class_walk.specs.declared.job.WalkJob.{WalkJob}
 use Rattle.class_walk.specs.declared.job.WalkRule.TheVariants as rules
@@ -37,7 +35,7 @@ use Rattle.table_scan.specs.declared.types.PrefixRow.{PrefixRow}
 use Rattle.autoload_build.specs.Answers.{walks_of}
 use Rattle.autoload_build.specs.BuiltTables.{class_map_of, class_row, classes_in, classes_of, file_row, file_table, first_files, first_of_each, folders_of, prefix_table}
 use Rattle.autoload_build.specs.Jobs.{Project, by_prefix, falling, job_of, jobs_of, jobs_of_kind, jobs_of_prefix, jobs_of_rows, jobs_of_source, listed_jobs, patterns_of, prefix_of, row_jobs, rows, rule_of}
-use Rattle.autoload_build.proofs.KeyGroups.{all_append, all_weaker}
+use Rattle.autoload_build.proofs.KeyGroups.{all_append}
 use Rattle.autoload_build.proofs.WalkedParts.{Finds, IsFoundBy, all_numbered, jobs_find}
 
 -- ---- all of a list

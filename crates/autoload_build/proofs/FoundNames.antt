@@ -1,13 +1,11 @@
 -- The names that walks of rows find, and the files at which their classes are looked for.
 use Rattle.std.proofs.Common.{◌≡◌, ℕ, zero, suc, ◌<◌, Bool, true, false, cond, ◌&&◌, ◌||◌, List, [], ◌∷◌, ◌++◌, length, map, filter, Option, Some, None, inl, inr, refl, sym, ap, ◌∙◌, subst, arith}
-use Rattle.std.specs.Prelude.{codes, find, ◌⊎◌, not}
+use Rattle.std.specs.Prelude.{codes, find, not}
 use Rattle.std.specs.List.{AllByRecursion, Contains, flat_map, list_any, slice_index_or}
 use Rattle.std.specs.Option.{option_map, option_or}
-use Rattle.std.specs.Cmp.Lexicographic.{bytes_decides}
 use Rattle.std.proofs.lemmas.List.Elements.{Contains-append_left, Contains-append_right, Contains-push}
 use Rattle.std.proofs.lemmas.List.Sorted.{Contains-permutation}
 use Rattle.path_name.specs.Orders.{bytes_are_equal, paths_are_equal}
-use Rattle.php_lex.specs.Cut.{Lex, IsCut}
 use Rattle.php_decl.specs.Declarations.{names_of}
 use Rattle.tree_dev.specs.Trees.{FileTree, entry_at, kind_at, kind_of}
 use Rattle.tree_dev.specs.Projects.{bytes_of}
@@ -26,10 +24,11 @@ use Rattle.class_lookup.specs.Lookup.{has_file, is_file_kind}
 use Rattle.class_walk.specs.Patterns.{is_excluded}
 use Rattle.class_walk.specs.Walks.{AreScansOf, IsScanOf, Source, counts, ends_in, has_ending, is_row_file, is_scanned, last_of}
 use Rattle.class_walk.specs.declared.job.Scanned.{Scanned}
-use Rattle.autoload_build.specs.BuiltTables.{classes_in, classes_of}
+use Rattle.autoload_build.specs.BuiltTables.{classes_in}
 use Rattle.autoload_build.specs.ClassAgreement.{file_in}
 use Rattle.autoload_build.specs.Jobs.{Project, rows, rule_of}
-use Rattle.autoload_build.proofs.KeyGroups.{all_weaker, equal_bytes}
+use Rattle.autoload_build.proofs.KeyGroups.{equal_bytes}
+use Rattle.autoload_build.proofs.ListMembers.{mapped_member}
 use Rattle.autoload_build.proofs.RowWalks.{IsRowWalk}
 use Rattle.autoload_build.proofs.SomeCut.{never_uncut}
 use Rattle.autoload_build.proofs.WalkedParts.{IsFoundBy}
@@ -66,11 +65,6 @@ module _ {X : Type 0} where
       by true e found rest = ap Some (one.0 e)
       by false e (inl same) rest = absurd (apart false e refl same)
       by false e (inr later) rest = rest later
-
-mapped_member : {X Y : Type 0} (f : X → Y) (xs : List X) (x : X) → Member x xs → Member (f x) (map f xs)
-mapped_member f [] x there = absurd there
-mapped_member f (y ∷ xs) x (inl e) = inl (ap f e)
-mapped_member f (y ∷ xs) x (inr there) = inr (mapped_member f xs x there)
 
 -- ---- a row whose prefix begins a name leads it to a candidate
 

@@ -19,3 +19,8 @@ pub mod RowWalks
 pub mod FoundNames
 pub mod Agreement
 pub mod BelowProject
+pub mod ListMembers
+pub mod RowTails
+pub mod ReadRows
+pub mod FullWalks
+pub mod ScanReach

@@ -1,6 +1,6 @@
 -- The walks of the folders of rows: each is of a row, and shows files that are there in the tree that is shown.
 use Rattle.std.proofs.Common.{◌≡◌, ℕ, zero, suc, Bool, true, false, cond, List, [], ◌∷◌, ◌++◌, map, filter, Option, Some, None, refl, sym, ap, ◌∙◌, subst, append_assoc}
-use Rattle.std.specs.Prelude.{codes, reverse, ◌⊎◌, ◌||◌}
+use Rattle.std.specs.Prelude.{codes, reverse, ◌||◌}
 use Rattle.std.proofs.Common.{inl, inr}
 use Rattle.std.specs.List.{AllByRecursion, flat_map, slice_get}
 use Rattle.std.proofs.lemmas.List.{reverse-append}
@@ -21,7 +21,7 @@ use Rattle.psr_routes.proofs.PackageLaws.{taken_at}
 use Rattle.class_walk.specs.Walks.{ends_in, is_skipped, last_of}
 use Rattle.class_walk.specs.declared.job.WalkJob.{WalkJob}
 use Rattle.autoload_build.specs.ClassAgreement.{IsShown, file_in, file_of_package}
-use Rattle.autoload_build.specs.Jobs.{Project, by_falling_key, by_prefix, falling, job_of, jobs_of_kind, jobs_of_prefix, jobs_of_rows, jobs_of_source, left_out, place_of, prefix_of, row_jobs, rows, rule_of, skipped_for}
+use Rattle.autoload_build.specs.Jobs.{Project, by_prefix, falling, job_of, jobs_of_kind, jobs_of_prefix, jobs_of_rows, jobs_of_source, left_out, place_of, prefix_of, row_jobs, rows, rule_of, skipped_for}
 use Rattle.autoload_build.proofs.KeyGroups.{all_append, all_weaker}
 
 -- ---- all of a list
@@ -70,6 +70,21 @@ all_mapped P f (x ∷ xs) all = (all.0, all_mapped P f xs all.1)
 pub all_members : {X : Type 0} (xs : List X) → AllByRecursion (λ x. Member x xs) xs
 all_members [] = tt
 all_members {X} (x ∷ xs) = (inl refl, all_weaker (λ (y : X). Member y xs) (λ (y : X). Member y (x ∷ xs)) (λ y there. inr there) xs (all_members xs))
+
+-- ---- rules of a project
+
+-- what holds for the root's rules and for those of packages
+pub all_of_sources : (p : Project) (Q : Source → Type 0) (P : Placed → Type 0) → ((rules : Autoload) → Member (record { owner = None; folder = p.at; rules = rules }) (root_sources p.at p.root p.dev) → Q (record { owner = None; folder = p.at; rules = rules }))
+    → ((one : Placed) (rules : Autoload) → P one → Q (record { owner = Some one; folder = one.shown; rules = rules })) → AllByRecursion P p.members → AllByRecursion Q (sources_of p.at p.root p.members p.dev)
+unfolding sources_of
+all_of_sources p Q P of_root of_package each = all_append Q (root_sources p.at p.root p.dev) (reverse (package_sources p.members)) (own p.dev (λ rules there. of_root rules there)) (all_reversed Q (package_sources p.members)
+    (all_mapped Q (λ one. record { owner = Some one.1; folder = one.1.shown; rules = one.1.package.autoload }) (ordered p.members)
+    (all_from_each (λ (one : Numbered). Q (record { owner = Some one.1; folder = one.1.shown; rules = one.1.package.autoload })) (ordered p.members)
+    (λ k one e. of_package one.1 one.1.package.autoload (all_at P p.members one.0 one.1 each (taken_at p.members k one e))))))
+  where
+    own : (dev : Bool) → ((rules : Autoload) → Member (record { owner = None; folder = p.at; rules = rules }) (root_sources p.at p.root dev) → Q (record { owner = None; folder = p.at; rules = rules })) → AllByRecursion Q (root_sources p.at p.root dev)
+    own true each = (each p.root.package.autoload (inl refl), (each p.root.autoload_dev (inr (inl refl)), tt))
+    own false each = (each p.root.package.autoload (inl refl), tt)
 
 -- ---- walks of rows
 
@@ -139,15 +154,7 @@ module _ (p : Project) (read shown : FileTree) where
         not_left_out false file e = refl
 
     all_shown : AllByRecursion IsSourceShown (sources_of p.at p.root p.members p.dev)
-    unfolding sources_of
-    all_shown = all_append IsSourceShown (root_sources p.at p.root p.dev) (reverse (package_sources p.members)) (own p.dev) (all_reversed IsSourceShown (package_sources p.members)
-        (all_mapped IsSourceShown (λ one. record { owner = Some one.1; folder = one.1.shown; rules = one.1.package.autoload }) (ordered p.members)
-        (all_from_each (λ (one : Numbered). IsSourceShown (record { owner = Some one.1; folder = one.1.shown; rules = one.1.package.autoload })) (ordered p.members)
-        (λ k one e. package_shown one.1 one.1.package.autoload (all_at (λ (m : Placed). (below : List (List ℕ)) → file_in shown (m.shown ++ below) ≡ file_of_package read m below) p.members one.0 one.1 is.packages (taken_at p.members k one e))))))
-      where
-        own : (dev : Bool) → AllByRecursion IsSourceShown (root_sources p.at p.root dev)
-        own true = (root_shown p.root.package.autoload, (root_shown p.root.autoload_dev, tt))
-        own false = (root_shown p.root.package.autoload, tt)
+    all_shown = all_of_sources p IsSourceShown (λ (one : Placed). (below : List (List ℕ)) → file_in shown (one.shown ++ below) ≡ file_of_package read one below) (λ rules there. root_shown rules) package_shown is.packages
 
     pub row_walks : AllByRecursion IsRowWalk (row_jobs p)
     unfolding row_jobs by_prefix jobs_of_rows rows_of

@@ -77,12 +77,12 @@ reached_kept : (job : WalkJob) (tail : List (List ℕ)) → is_reached job tail 
 unfolding is_reached
 reached_kept job tail e = not_skipped (list_all (λ name. not (is_hidden name)) tail) (is_skipped job.skip (job.at ++ tail)) e
 
-all_reached : (t : FileTree) (job : WalkJob) → AllByRecursion (λ tail. is_reached job tail ≡ true) (reached t job)
+pub all_reached : (t : FileTree) (job : WalkJob) → AllByRecursion (λ tail. is_reached job tail ≡ true) (reached t job)
 unfolding reached
 all_reached t job = kept_pass (is_reached job) (tails_in t job.at)
 
 module _ (t : FileTree) (Q : WalkJob → Type 0) (search : Search) (q : Q search.job) where
-  abbrev P : Source → Type 0
+  abbrev pub P : Source → Type 0
   P source = IsFoundBy t Q source
 
   file_finds : (tail : List (List ℕ)) (bytes : List ℕ) (walked : Walked) → entry_at t (search.job.at ++ tail) ≡ Some (entries.File bytes) → is_skipped search.job.skip (search.job.at ++ tail) ≡ false
@@ -106,7 +106,7 @@ module _ (t : FileTree) (Q : WalkJob → Type 0) (search : Search) (q : Q search
   unfolding entry_walked
   entry_finds tail walked kept = kind_finds tail (entry_at t (search.job.at ++ tail)) walked refl kept
 
-  each_finds : (tails : List (List (List ℕ))) (walked : Walked) → AllByRecursion (λ tail. is_reached search.job tail ≡ true) tails → Finds P walked (each_walked t search tails walked)
+  pub each_finds : (tails : List (List (List ℕ))) (walked : Walked) → AllByRecursion (λ tail. is_reached search.job tail ≡ true) tails → Finds P walked (each_walked t search tails walked)
   each_finds [] walked all = stays P walked
   each_finds (tail ∷ tails) walked all = and_then P walked (entry_walked t search tail walked) (λ next. each_walked t search tails next) (entry_finds tail walked (reached_kept search.job tail all.0)) (λ next. each_finds tails next all.1)
 

@@ -8,8 +8,9 @@ ghost use Rattle.std.specs.Option.{option_map};
 ghost use Rattle.std.specs.declared.cmp.Ordering.TheVariants.{Less};
 ghost use Rattle.path_name.specs.Orders.{byte_cmp};
 ghost use Rattle.path_name.specs.Paths.{BeginsWith};
+ghost use Rattle.class_paths.specs.ClassNames.{IsClassName};
 ghost use Rattle.class_paths.specs.Search.{Listed, listed_file, search_file};
-ghost use Rattle.tree_dev.specs.Trees.{FileTree};
+ghost use Rattle.tree_dev.specs.Trees.{FileTree, IsTree};
 ghost use Rattle.class_walk.specs.Walks.{AreScansOf, Walked};
 ghost use Rattle.class_walk.specs.declared.job.Scanned.{Scanned};
 ghost use Rattle.class_lookup.specs.Lookup.{has_file, lookup_in, mapped_row};
@@ -19,7 +20,7 @@ ghost use Rattle.table_scan.specs.declared.types.Mode.{Mode};
 ghost use Rattle.table_scan.specs.declared.types.Mode.TheVariants.{Plain, Optimised, Authoritative};
 ghost use Rattle.autoload_build.specs.Answers.{AreFound, AreShownBelow, walks_of};
 ghost use Rattle.autoload_build.specs.BuiltTables.{class_map_of, classes_of, tables_of};
-ghost use Rattle.autoload_build.specs.ClassAgreement.{IsShown, IsUnambiguous};
+ghost use Rattle.autoload_build.specs.ClassAgreement.{IsInScanReach, IsShown, IsUnambiguous};
 ghost use Rattle.autoload_build.specs.Jobs.{ArePlacedBelow, HasReadManifests, Project, rows};
 
 /// The class map has for each class the first file that was found to declare it, and its classes rise in byte order.
@@ -56,13 +57,18 @@ pub fn optimised_tables()
 {}
 
 /// Authoritative tables open the file that the class map has for a class, and for no other class a file. So they open the same
-/// as optimised ones for each class that the class map has.
+/// as optimised ones for each class that the class map has. They open the same as plain ones for each unambiguous class in
+/// reach of the scan, where the walks read a tree, and in a tree in which the packages stand in their places as they were read.
 pub fn authoritative_tables()
     ensures mapped { (p : Project) (generation : ℕ) (found : List Scanned) (is_file : List (List ℕ) → Bool) (name : List ℕ) →
         lookup_in (tables_of p Authoritative generation found) is_file name ≡ listed_file (classes_of found) name }
     ensures same { (p : Project) (generation : ℕ) (found : List Scanned) (is_file : List (List ℕ) → Bool) (name : List ℕ) →
         is_some (listed_file (classes_of found) name) ≡ true →
         lookup_in (tables_of p Authoritative generation found) is_file name ≡ lookup_in (tables_of p Optimised generation found) is_file name }
+    ensures in_reach { (p : Project) (generation left : ℕ) (read shown : FileTree) (listed walked : List Scanned) (name : List ℕ) →
+        IsTree read → HasReadManifests p → AreFound read p left listed walked → IsShown p read shown → IsClassName name →
+        IsUnambiguous shown (rows p) (classes_of listed) name → IsInScanReach shown p name →
+        lookup_in (tables_of p Authoritative generation (listed ++ walked)) (has_file shown) name ≡ search_file (has_file shown) (rows p) (classes_of listed) name }
 {}
 
 /// Where packages stand at or below the project's folder, so does each file that walks find, and each path that tables name.

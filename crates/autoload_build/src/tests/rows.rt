@@ -198,7 +198,7 @@ const HOME: &[(&str, &str)] = &[
 ];
 
 /// Projects with what their classes open.
-pub static OPENED: [Opened; 5] = [
+pub static OPENED: [Opened; 6] = [
     Opened {
         root: "{\"name\":\"shop/site\",\"autoload\":{\"psr-4\":{\"App\\\\\":\"src/\"}}}",
         packages: &[
@@ -256,6 +256,13 @@ pub static OPENED: [Opened; 5] = [
         packages: &[],
         files: &[("vendor/X.php", "<?php namespace vendor; class X {}")],
         classes: &[("vendor\\X", ["vendor/X.php", "vendor/X.php", ""])],
+    },
+    // So is one whose file has no name before the ending.
+    Opened {
+        root: "{\"autoload\":{\"psr-0\":{\"App_\":\"old\"}}}",
+        packages: &[],
+        files: &[("old/App/.php", "<?php class App_ {}")],
+        classes: &[("App_", ["old/App/.php", "old/App/.php", ""])],
     },
     // The first file at which an ambiguous class is looked for declares another one.
     Opened {
