@@ -3,7 +3,7 @@
 ghost use Rattle.std.specs.Prelude.{◌≡◌, ℕ, List, false, None, Some, IfOk, OnOk, is_err};
 ghost use Rattle.std.specs.FinMap as map;
 ghost use Rattle.tree_dev.specs.Trees.{FileTree, IsTree};
-ghost use Rattle.tree_dev.specs.Device.{OfTold};
+ghost use Rattle.tree_dev.specs.Device.{OfTold, next};
 ghost use Rattle.tree_dev.specs.Disk.{reading};
 ghost use Rattle.tree_dev.specs.Changes.{changed};
 ghost use Rattle.tree_dev.specs.Steady.{EachImage, IsWhole, Steady, Through};
@@ -31,6 +31,7 @@ fn write_draft<T: Tree>(tree: &mut T, prepared: &Prepared) -> Result<Did, Failed
     ensures written { IfOk result (λ did. did ≡ dids.Done → OfTold (T.meaning tree.old) (λ t. IsWhole (T.meaning tree.new).disks.now
         × EachImage (T.meaning tree.new) (λ left. left ≡ changed t (changes.Written prepared.now.draft prepared.now.text)))) }
     ensures fits { IfOk result (λ did. OfTold (T.meaning tree.old) (λ t. (way : Way) (puts : ℕ → Files) → IsReady way puts prepared.now t → did ≡ dids.Done)) }
+    ensures writes { (T.meaning tree.new).writes ≡ next (T.meaning tree.old).writes }
 {
     match tree.write(&prepared.draft, prepared.text.as_slice())? {
         Did::Done => {
@@ -56,6 +57,7 @@ fn name_draft<T: Tree>(tree: &mut T, prepared: &Prepared) -> Result<Did, Failed>
         → HasRoomFrom way.project 0 (reading (T.meaning tree.new).disks.now))) }
     ensures fits { IfOk result (λ did. OfTold (T.meaning tree.old) (λ _. (way : Way) (puts : ℕ → Files) (t : FileTree) → IsTree t → IsReady way puts prepared.now t
         → EachImage (T.meaning tree.old) (λ left. left ≡ changed t (changes.Written prepared.now.draft prepared.now.text)) → did ≡ dids.Done)) }
+    ensures writes { (T.meaning tree.new).writes ≡ (T.meaning tree.old).writes }
 {
     match tree.rename(&prepared.draft, &prepared.at)? {
         Did::Done => {
@@ -77,6 +79,7 @@ fn place_journal<T: Tree>(tree: &mut T, prepared: &Prepared) -> Result<Did, Fail
     ensures room { IfOk result (λ did. did ≡ dids.Done → OfTold (T.meaning tree.old) (λ t. (way : Way) (puts : ℕ → Files) → IsReady way puts prepared.now t
         → HasRoomFrom way.project 0 (reading (T.meaning tree.new).disks.now))) }
     ensures fits { IfOk result (λ did. OfTold (T.meaning tree.old) (λ t. (way : Way) (puts : ℕ → Files) → IsReady way puts prepared.now t → did ≡ dids.Done)) }
+    ensures writes { (T.meaning tree.new).writes ≡ next (T.meaning tree.old).writes }
 {
     match write_draft(tree, prepared)? {
         Did::Done => name_draft(tree, prepared),
@@ -158,7 +161,8 @@ fn finish<T: Tree>(tree: &mut T, prepared: &Prepared) -> Result<(), CommitFault>
 /// is moved to its target, and the journal is taken away. Whatever a crash leaves at any moment has the old project, or the
 /// new one, or is on the way from one to the other with a journal, by which recovery finishes it; after Ok every crash leaves
 /// the new project. It takes no memory. `DeviceFault` comes only where the device's count of faults rose. `Vanished(place)`: a
-/// call had no place for its change; over a tree that tells that never comes. `.install` is left for `release`.
+/// call had no place for its change; over a tree that tells that never comes. `.install` is left for `release`. It makes one call
+/// of `write`, that of the journal, whatever it answers.
 pub fn commit<T: Tree>(tree: &mut T, _hold: &Hold, prepared: &Prepared) -> Result<(), CommitFault>
     ensures calls { Calls (T.meaning tree.old) (T.meaning tree.new) (is_commit_fault result) }
     ensures through { OfTold (T.meaning tree.old) (λ t. (way : Way) (puts : ℕ → Files) → IsReady way puts prepared.now t
@@ -172,6 +176,8 @@ pub fn commit<T: Tree>(tree: &mut T, _hold: &Hold, prepared: &Prepared) -> Resul
     // Over a tree that tells it is only a device that fails that keeps the commit from its end.
     ensures never_vanished { OfTold (T.meaning tree.old) (λ t. (way : Way) (puts : ℕ → Files) → IsReady way puts prepared.now t
         → EachImage (T.meaning tree.old) (λ left. left ≡ t) → is_vanished result ≡ false) }
+    // The journal is written by one call, and nothing else is.
+    ensures writes { (T.meaning tree.new).writes ≡ next (T.meaning tree.old).writes }
 {
     match place_journal(tree, prepared)? {
         Did::Done => finish(tree, prepared),

@@ -42,6 +42,7 @@ pub fn claim<T: Tree>(alloc: Global, tree: &mut T, project: &Path) -> Result<Hol
     ensures vanished { (path : List (List ℕ)) → result ≡ Err (faults.Vanished path) → (path ≡ work_path project.now) × (Stays (T.meaning tree.old) (T.meaning tree.new)
         × OfTold (T.meaning tree.old) (λ t. has_folder t (without_last (work_path project.now)) ≡ false)) }
     ensures steady { Steady project.now (T.meaning tree.old) (T.meaning tree.new) }
+    ensures writes { (T.meaning tree.new).writes ≡ (T.meaning tree.old).writes }
     ensures device { IsTrue (is_device_fault result) → Rose (T.meaning tree.old).faults (T.meaning tree.new).faults }
 {
     let work = project.child(alloc, b".install")?;

@@ -170,6 +170,7 @@ fn installs_are_committed(rt: HostRuntime) -> Result<(), Fail> {
     assert!(rt; all_stand(alloc, &mut tree, &NEW)?);
     release(alloc, &mut tree, hold)?;
     assert!(rt; stands(alloc, &mut tree, File(b".install/old/0/f", b""))?);
+    assert_eq!(rt; tree.writes(), 1);
     Ok(())
 }
 

@@ -3,7 +3,7 @@ use Rattle.tree_dev.proofs.Stretches.{through_on}
 use Rattle.install_world.specs.InFlight.{IsInFlight}
 use Rattle.install_world.proofs.PartDone.{told_still}
 use Rattle.vendor_journal.proofs.CallRules.{calls_none, calls_on}
-use Rattle.std.proofs.Common.{refl}
+use Rattle.std.proofs.Common.{◌∙◌, refl}
 use Rattle.vendor_journal.proofs.commits.commit.Goals as goal
 
 pub returns-in_err-place_journal-clause-calls : goal.returns-in_err-place_journal-clause-calls
@@ -52,3 +52,6 @@ returns-in-Done-clause-work g c = on_ok_weaker c.finish.result
     let placed = c.in_ok-place_journal.ensures.placed c.in-Done.is t told way puts ready in
     work now.0 now.1 placed.0 way ready.made_ready placed.1)
     c.finish.ensures.work
+
+pub returns-in-Done-clause-writes : goal.returns-in-Done-clause-writes
+returns-in-Done-clause-writes g c = c.finish.ensures.writes_none.writes ∙ c.place_journal.ensures.writes

@@ -1,3 +1,4 @@
+use Rattle.std.proofs.Common.{◌∙◌}
 use Rattle.std.proofs.lemmas.Result.{IfOk-weaker, err_from_is_err_and}
 use Rattle.tree_dev.proofs.Stretches.{through_then_through}
 use Rattle.install_world.specs.InFlight.{IsInFlight}
@@ -54,3 +55,6 @@ returns-in-Misplaced-clause-fits g c = λ t told way puts ready.
     let done = c.in_ok-write_draft.ensures.fits t told way puts ready in
     let misplaced = c.in-Misplaced.is in
     absurd cc
+
+pub returns-in-Done-clause-writes : goal.returns-in-Done-clause-writes
+returns-in-Done-clause-writes g c = c.name_draft.ensures.writes ∙ c.write_draft.ensures.writes
