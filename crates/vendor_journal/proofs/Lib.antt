@@ -2,7 +2,7 @@ mod CallRules
 mod CommitPlaces
 mod FaultRules
 mod HoldRules
-mod InstallSteps
-mod JobMoves
+pub mod InstallSteps
+pub mod JobMoves
 mod JournalPlaced
 mod PreparedParts
