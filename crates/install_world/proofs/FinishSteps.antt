@@ -225,19 +225,19 @@ module _ (project : List (List ℕ)) (journal : Journal) (t u : FileTree) (stand
           (file_at u (staged_path project part.number ++ part.below)) (file_at t (staged_path project part.number ++ part.below)) (file_at u path) (file_at t path)
           (there part.number) (staged part.number part.below) (outside path in_project)
 
-  agreeing_alike : FinishesAlike project journal t u
+  pub agreeing_alike : FinishesAlike project journal t u
   agreeing_alike = record { stands = stands; each = agreeing_each }
 
 itself_not : (at path : List (List ℕ)) → behind at (path ++ []) ≡ None → behind at path ≡ None
 itself_not at path none = ap (behind at) (sym (append-nil path)) ∙ none
 
-made_elsewhere : (at path : List (List ℕ)) (t u : FileTree) → OnlyMade at t u → behind path at ≡ None → map.get u path ≡ map.get t path
+pub made_elsewhere : (at path : List (List ℕ)) (t u : FileTree) → OnlyMade at t u → behind path at ≡ None → map.get u path ≡ map.get t path
 made_elsewhere at path t u made none = elim (made.each path) [
   | inl same ↦ same
   | inr new ↦ let some = new.0 in let no : is_within path at ≡ false = ap is_some none in absurd cc
 ]
 
-made_files : (at path : List (List ℕ)) (t u : FileTree) → OnlyMade at t u → file_at u path ≡ file_at t path
+pub made_files : (at path : List (List ℕ)) (t u : FileTree) → OnlyMade at t u → file_at u path ≡ file_at t path
 made_files at path t u made = elim (made.each path) [
   | inl same ↦ ap bytes_of same
   | inr new ↦ ap bytes_of new.1.1 ∙ sym (ap bytes_of new.1.0)
@@ -259,7 +259,7 @@ removed_alike project journal number t u removed =
     (λ other below. ap bytes_of (removed_else (kept_path project number) (staged_path project other ++ below) t u removed (kept_not_staged project number other below)))
 
 -- a target is at or below no path in `.install`
-work_not_above : (project at : List (List ℕ)) (number : ℕ) (target : Target) (places : PartPlaces) → ArePlaces project number target places → is_within (work_path project) at ≡ true
+pub work_not_above : (project at : List (List ℕ)) (number : ℕ) (target : Target) (places : PartPlaces) → ArePlaces project number target places → is_within (work_path project) at ≡ true
     → behind at (target_path project target) ≡ None
 work_not_above project at number target places are work =
     itself_not at (target_path project target) (work_not_part project at (target_path project target ++ []) work (target_is_part project [] target are.is_target))

@@ -165,6 +165,27 @@ target_under [] target is = by target.path is.place
 target_under (x ∷ xs) target is = refl
 
 -- Where all parts are done, the project is the new one.
+-- what finishing makes of a part that is done is what stands
+pub part_done_is_own : (project : List (List ℕ)) (t : FileTree) (journal : Journal) → HasJournal project t journal → IsTree t → (path : List (List ℕ)) (part : Placed)
+    → part_at project journal.targets path ≡ Some part → (found : FoundPart project journal.targets path part 0) → IsPartDone found.target.gone project found.index found.target t
+    → finished_by project journal.targets t path ≡ file_at t path
+unfolding finished_by
+part_done_is_own project t journal stands tree path part e found done = ap (finished_file project t path) e ∙ by part.gone refl
+  where
+    by : (gone : Bool) → part.gone ≡ gone → finished_file project t path (Some part) ≡ file_at t path
+    by true is =
+        let gone : found.target.gone ≡ true = sym found.gone ∙ is in
+        let absent = subst (λ g. IsPartDone g project found.index found.target t) gone done in
+        ap (λ g. cond g None (cond (is_some (map.get t (staged_path project part.number))) (file_at t (staged_path project part.number ++ part.below)) (file_at t path))) is
+        ∙ sym (ap (file_at t) found.path_is ∙ no_file_below t (target_path project found.target) part.below tree
+        (target_under project found.target (part_target project t journal stands found.index found.target found.is_part)) absent)
+    by false is =
+        let number : part.number ≡ found.index = found.number ∙ omega arith in
+        let gone : found.target.gone ≡ false = sym found.gone ∙ is in
+        let absent = subst (λ g. IsPartDone g project found.index found.target t) gone done in
+        ap (λ g. cond g None (cond (is_some (map.get t (staged_path project part.number))) (file_at t (staged_path project part.number ++ part.below)) (file_at t path))) is
+        ∙ ap (λ o. cond (is_some o) (file_at t (staged_path project part.number ++ part.below)) (file_at t path)) (ap (λ n. map.get t (staged_path project n)) number ∙ absent)
+
 -- where all parts are done, what finishing makes of a tree is its own project
 pub all_done_is_own : (project : List (List ℕ)) (t : FileTree) (journal : Journal) → HasJournal project t journal → IsTree t → AreAllDone project journal.targets t
     → (path : List (List ℕ)) → finished_by project journal.targets t path ≡ file_at t path
@@ -173,21 +194,9 @@ all_done_is_own project t journal stands tree done path = same (part_at project 
   where
     same : (found : Option Placed) → part_at project journal.targets path ≡ found → finished_file project t path (part_at project journal.targets path) ≡ file_at t path
     same None e = ap (finished_file project t path) e
-    same (Some part) e = ap (finished_file project t path) e ∙ by (found_part project path journal.targets part e) part.gone refl
-      where
-        by : FoundPart project journal.targets path part 0 → (gone : Bool) → part.gone ≡ gone → finished_file project t path (Some part) ≡ file_at t path
-        by found true is =
-            let gone : found.target.gone ≡ true = sym found.gone ∙ is in
-            let absent = subst (λ g. IsPartDone g project found.index found.target t) gone (done.each found.index found.target found.is_part) in
-            ap (λ g. cond g None (cond (is_some (map.get t (staged_path project part.number))) (file_at t (staged_path project part.number ++ part.below)) (file_at t path))) is
-            ∙ sym (ap (file_at t) found.path_is ∙ no_file_below t (target_path project found.target) part.below tree
-            (target_under project found.target (part_target project t journal stands found.index found.target found.is_part)) absent)
-        by found false is =
-            let number : part.number ≡ found.index = found.number ∙ omega arith in
-            let gone : found.target.gone ≡ false = sym found.gone ∙ is in
-            let absent = subst (λ g. IsPartDone g project found.index found.target t) gone (done.each found.index found.target found.is_part) in
-            ap (λ g. cond g None (cond (is_some (map.get t (staged_path project part.number))) (file_at t (staged_path project part.number ++ part.below)) (file_at t path))) is
-            ∙ ap (λ o. cond (is_some o) (file_at t (staged_path project part.number ++ part.below)) (file_at t path)) (ap (λ n. map.get t (staged_path project n)) number ∙ absent)
+    same (Some part) e =
+        let found = found_part project path journal.targets part e in
+        part_done_is_own project t journal stands tree path part e found (done.each found.index found.target found.is_part)
 
 pub all_done_is_new : (project : List (List ℕ)) (surroundings : FileTree) (old new : Files) (t : FileTree) (journal : Journal) (stands : HasJournal project t journal)
     → length stands.text < 2 ^ 64 → IsInFlight project surroundings old new t → IsTree t → AreAllDone project journal.targets t → HasFiles project t new

@@ -1,11 +1,14 @@
 pub mod ApartPaths
 pub mod Cuts
+pub mod FinishAgain
 pub mod FinishAlike
 pub mod Finished
 pub mod FinishSteps
+pub mod FinishStops
 pub mod FirstLine
 pub mod FlightLaws
 pub mod FoldersInOrder
+pub mod FoldersThere
 pub mod Grammar
 pub mod GrammarLines
 pub mod LeavesGone

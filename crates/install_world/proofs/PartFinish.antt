@@ -16,7 +16,7 @@ use Rattle.tree_dev.specs.Steady.{EachImage, Through}
 use Rattle.tree_dev.proofs.Images.{reading_is_image}
 use Rattle.tree_dev.proofs.Stretches.{same_moment, through_then_through}
 use Rattle.install_world.specs.InFlight.{IsPart, IsPartDone, kept_path, old_path, staged_path, target_path}
-use Rattle.install_world.specs.Moving.{ArePlaces, ChangesPlaces, IsOnWay, Way}
+use Rattle.install_world.specs.Moving.{ArePlaces, ChangesPlaces, HasFolders, IsOnWay, Way}
 use Rattle.install_world.specs.Removals.{OnlyRemoved, WritesNone}
 use Rattle.std.specs.Prelude.{Err}
 use Rattle.install_world.specs.Removals as removals
@@ -58,6 +58,14 @@ module _ (way : Way) (t : FileTree) (on : IsOnWay way t) where
 
   pub way_apart : (i j : ℕ) (first second : Target) → i ≢ j → IsPart way.journal.targets i first → IsPart way.journal.targets j second → AreTargetsApart first second
   way_apart i j first second other one two = two_parts_apart way.journal.targets i j first second on.stands.says.is_journal.job.apart one two other
+
+-- the folders that moves need are there on the way
+pub way_folders : (way : Way) (project : List (List ℕ)) (t : FileTree) → way.project ≡ project → IsOnWay way t → (number : ℕ) (target : Target) → IsPart way.journal.targets number target
+    → HasFolders project number target t
+way_folders way project t same on number target part = subst (λ p. HasFolders p number target t) same (record {
+  old_folder = way_old_folder way t on;
+  parent = λ goes there. way_parents way t on number target part;
+})
 
 -- no moment more
 pub still_through : (way : Way) (a b : Meaning) → b.disks ≡ a.disks → a.faults ≤ b.faults → EachImage a (IsOnWay way) → Through a b (IsOnWay way)

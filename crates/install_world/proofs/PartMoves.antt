@@ -95,7 +95,7 @@ pub record ChangesPart (project : List (List ℕ)) (number : ℕ) (target : Targ
   pub others : (path : List (List ℕ)) → behind (target_path project target) path ≡ None → behind (staged_path project number) path ≡ None
       → behind (kept_path project number) path ≡ None → map.get now path ≡ map.get t path
 
-folder_stays : (t now : FileTree) (path : List (List ℕ)) → map.get now path ≡ map.get t path → entry_at now path ≡ entry_at t path
+pub folder_stays : (t now : FileTree) (path : List (List ℕ)) → map.get now path ≡ map.get t path → entry_at now path ≡ entry_at t path
 folder_stays t now [] e = refl
 folder_stays t now (x ∷ xs) e = e
 

@@ -89,6 +89,10 @@ pub kept_not_staged : (project : List (List ℕ)) (first second : ℕ) (below : 
 kept_not_staged project first second below =
     below_project project (codes ".install" ∷ codes "new" ∷ decimal_text second ∷ []) below (codes ".install" ∷ codes "old" ∷ decimal_text first ∷ [])
 
+pub journal_not_staged : (project : List (List ℕ)) (number : ℕ) (below : List (List ℕ)) → behind (journal_path project) (staged_path project number ++ below) ≡ None
+journal_not_staged project number below =
+    below_project project (codes ".install" ∷ codes "new" ∷ decimal_text number ∷ []) below (codes ".install" ∷ codes "journal" ∷ [])
+
 pub staged_not_journal : (project : List (List ℕ)) (number : ℕ) → behind (staged_path project number) (journal_path project) ≡ None
 staged_not_journal project number = behind_same_head project (codes ".install" ∷ codes "new" ∷ decimal_text number ∷ []) (codes ".install" ∷ codes "journal" ∷ [])
 

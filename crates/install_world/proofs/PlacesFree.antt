@@ -6,7 +6,7 @@ use Rattle.tree_dev.specs.Device.{MaySettle, Meaning}
 use Rattle.std.specs.FinMap as map
 use Rattle.path_name.specs.Decimals.{decimal_text}
 use Rattle.path_name.specs.Paths.{without_last}
-use Rattle.tree_dev.specs.Trees.{FileTree, behind, entry_at, has_folder, kind_at, kind_of}
+use Rattle.tree_dev.specs.Trees.{FileTree, behind, entry_at, has_folder, is_folder, kind_at, kind_of}
 use Rattle.tree_dev.specs.Changes.{changed, did, has_place, is_file, is_leaf, is_root}
 use Rattle.tree_dev.specs.declared.change.Change.{Change}
 use Rattle.tree_dev.specs.declared.change.Change.TheVariants as changes
@@ -17,17 +17,16 @@ use Rattle.tree_dev.specs.declared.entry.Entry.TheVariants as entries
 use Rattle.tree_dev.specs.declared.entry.Kind.{Kind}
 use Rattle.tree_dev.specs.declared.entry.Kind.TheVariants as kinds
 use Rattle.tree_dev.proofs.Snoc.{without_last-snoc}
-use Rattle.install_world.specs.InFlight.{HasJournal, IsPart, IsThere, kept_path, old_path, staged_path, target_path}
+use Rattle.install_world.specs.InFlight.{HasJournal, IsThere, kept_path, old_path, staged_path, target_path}
 use Rattle.tree_dev.specs.Projects.{journal_path}
-use Rattle.install_world.specs.Moving.{ArePlaces, IsOnWay, Way}
+use Rattle.install_world.specs.Moving.{ArePlaces, Way}
 use Rattle.install_world.specs.Targets.{IsTargetPath}
 use Rattle.install_world.specs.declared.moving.PartPlaces.{PartPlaces}
 use Rattle.install_world.specs.declared.target.Target.{Target}
 use Rattle.install_world.proofs.FlightLaws.{target_under}
-use Rattle.install_world.proofs.PartFinish.{way_old_folder, way_parents, way_target}
-use Rattle.install_world.proofs.PartMoves.{renamed_away, renamed_elsewhere}
-use Rattle.install_world.proofs.PartPaths.{behind_itself, kept_is_work, kept_not_staged, staged_is_work, target_is_part, target_not_work, work_not_part}
-use Rattle.install_world.proofs.WayMoves.{entry_is, staged_under, taken_on_way}
+use Rattle.install_world.proofs.PartMoves.{folder_stays, renamed_away, renamed_elsewhere}
+use Rattle.install_world.proofs.PartPaths.{behind_itself, kept_is_work, kept_not_staged, staged_is_work, target_is_part, target_not_parent, target_not_work, work_not_parent, work_not_part}
+use Rattle.install_world.proofs.WayMoves.{entry_is, staged_under}
 
 -- ---- what a call answers where its change has a place
 
@@ -108,45 +107,44 @@ above_kept project number =
     ap without_last (sym (append_assoc project (codes ".install" ∷ codes "old" ∷ []) (decimal_text number ∷ [])))
     ∙ without_last-snoc (old_path project) (decimal_text number)
 
-module _ (way : Way) (number : ℕ) (target : Target) (places : PartPlaces) (are : ArePlaces way.project number target places) (part : IsPart way.journal.targets number target)
-    (t : FileTree) (on : IsOnWay way t) where
+module _ (project : List (List ℕ)) (number : ℕ) (target : Target) (places : PartPlaces) (are : ArePlaces project number target places) (t : FileTree) where
   is_target : IsTargetPath target.path
-  is_target = way_target way t on number target part
+  is_target = are.is_target
 
-  staged_apart_target : behind (staged_path way.project number) (target_path way.project target) ≡ None
+  staged_apart_target : behind (staged_path project number) (target_path project target) ≡ None
   staged_apart_target =
-      ap (behind (staged_path way.project number)) (sym (append-nil (target_path way.project target)))
-      ∙ work_not_part way.project (staged_path way.project number) (target_path way.project target ++ []) (staged_is_work way.project number) (target_is_part way.project [] target is_target)
+      ap (behind (staged_path project number)) (sym (append-nil (target_path project target)))
+      ∙ work_not_part project (staged_path project number) (target_path project target ++ []) (staged_is_work project number) (target_is_part project [] target is_target)
 
-  kept_folder : has_folder t (without_last (kept_path way.project number)) ≡ true
-  kept_folder = ap (has_folder t) (above_kept way.project number) ∙ way_old_folder way t on
+  kept_folder : is_folder (entry_at t (old_path project)) ≡ true → has_folder t (without_last (kept_path project number)) ≡ true
+  kept_folder old = ap (has_folder t) (above_kept project number) ∙ old
 
   -- what stands at the target can be taken away
-  pub take_has_place : IsThere t places.target → map.get t places.kept ≡ None → has_place t (changes.Renamed places.target places.kept) ≡ true
-  take_has_place there none =
+  pub take_has_place : is_folder (entry_at t (old_path project)) ≡ true → IsThere t places.target → map.get t places.kept ≡ None → has_place t (changes.Renamed places.target places.kept) ≡ true
+  take_has_place old there none =
       subst (λ from. has_place t (changes.Renamed from places.kept) ≡ true) (sym are.target_is)
-      (subst (λ to. has_place t (changes.Renamed (target_path way.project target) to) ≡ true) (sym are.kept_is)
-      (rename_to_nothing t (target_path way.project target) (kept_path way.project number) (target_under way.project target is_target) (kept_under way.project number)
-      (subst (IsThere t) are.target_is there) (target_not_work way.project (kept_path way.project number) target is_target (kept_is_work way.project number))
-      kept_folder (ap (map.get t) (sym are.kept_is) ∙ none)))
+      (subst (λ to. has_place t (changes.Renamed (target_path project target) to) ≡ true) (sym are.kept_is)
+      (rename_to_nothing t (target_path project target) (kept_path project number) (target_under project target is_target) (kept_under project number)
+      (subst (IsThere t) are.target_is there) (target_not_work project (kept_path project number) target is_target (kept_is_work project number))
+      (kept_folder old) (ap (map.get t) (sym are.kept_is) ∙ none)))
 
   -- what is staged can be put where nothing is
-  pub put_has_place : IsThere t places.staged → map.get t places.target ≡ None → has_place t (changes.Renamed places.staged places.target) ≡ true
-  put_has_place there none =
+  pub put_has_place : has_folder t (without_last (target_path project target)) ≡ true → IsThere t places.staged → map.get t places.target ≡ None → has_place t (changes.Renamed places.staged places.target) ≡ true
+  put_has_place parent there none =
       subst (λ from. has_place t (changes.Renamed from places.target) ≡ true) (sym are.staged_is)
-      (subst (λ to. has_place t (changes.Renamed (staged_path way.project number) to) ≡ true) (sym are.target_is)
-      (rename_to_nothing t (staged_path way.project number) (target_path way.project target) (staged_under way.project number) (target_under way.project target is_target)
+      (subst (λ to. has_place t (changes.Renamed (staged_path project number) to) ≡ true) (sym are.target_is)
+      (rename_to_nothing t (staged_path project number) (target_path project target) (staged_under project number) (target_under project target is_target)
       (subst (IsThere t) are.staged_is there) staged_apart_target
-      (way_parents way t on number target part) (ap (map.get t) (sym are.target_is) ∙ none)))
+      parent (ap (map.get t) (sym are.target_is) ∙ none)))
 
   -- and a file over a file
-  pub put_over_file : IsThere t places.staged → is_file (entry_at t places.staged) ≡ true → is_file (entry_at t places.target) ≡ true
+  pub put_over_file : has_folder t (without_last (target_path project target)) ≡ true → IsThere t places.staged → is_file (entry_at t places.staged) ≡ true → is_file (entry_at t places.target) ≡ true
       → has_place t (changes.Renamed places.staged places.target) ≡ true
-  put_over_file there leaf file =
+  put_over_file parent there leaf file =
       subst (λ from. has_place t (changes.Renamed from places.target) ≡ true) (sym are.staged_is)
-      (subst (λ to. has_place t (changes.Renamed (staged_path way.project number) to) ≡ true) (sym are.target_is)
-      (rename_over_file t (staged_path way.project number) (target_path way.project target) (staged_under way.project number) (target_under way.project target is_target)
-      (subst (IsThere t) are.staged_is there) staged_apart_target (way_parents way t on number target part)
+      (subst (λ to. has_place t (changes.Renamed (staged_path project number) to) ≡ true) (sym are.target_is)
+      (rename_over_file t (staged_path project number) (target_path project target) (staged_under project number) (target_under project target is_target)
+      (subst (IsThere t) are.staged_is there) staged_apart_target parent
       (ap (λ at. is_file (entry_at t at)) (sym are.staged_is) ∙ leaf) (ap (λ at. is_file (entry_at t at)) (sym are.target_is) ∙ file)))
 
   taken_tree : FileTree
@@ -155,33 +153,50 @@ module _ (way : Way) (number : ℕ) (target : Target) (places : PartPlaces) (are
   taken_target : map.get (changed t (changes.Renamed places.target places.kept)) places.target ≡ None
   taken_target =
       ap (λ at. map.get (changed t (changes.Renamed at places.kept)) at) are.target_is
-      ∙ ap (λ to. map.get (changed t (changes.Renamed (target_path way.project target) to)) (target_path way.project target)) are.kept_is
-      ∙ renamed_away t (target_path way.project target) (kept_path way.project number) (target_path way.project target) []
-      (ap (behind (kept_path way.project number)) (sym (append-nil (target_path way.project target)))
-      ∙ work_not_part way.project (kept_path way.project number) (target_path way.project target ++ []) (kept_is_work way.project number) (target_is_part way.project [] target is_target))
-      (behind_itself (target_path way.project target))
+      ∙ ap (λ to. map.get (changed t (changes.Renamed (target_path project target) to)) (target_path project target)) are.kept_is
+      ∙ renamed_away t (target_path project target) (kept_path project number) (target_path project target) []
+      (ap (behind (kept_path project number)) (sym (append-nil (target_path project target)))
+      ∙ work_not_part project (kept_path project number) (target_path project target ++ []) (kept_is_work project number) (target_is_part project [] target is_target))
+      (behind_itself (target_path project target))
 
-  staged_not_in_kept : behind (kept_path way.project number) (staged_path way.project number) ≡ None
-  staged_not_in_kept = ap (behind (kept_path way.project number)) (sym (append-nil (staged_path way.project number))) ∙ kept_not_staged way.project number number []
+  staged_not_in_kept : behind (kept_path project number) (staged_path project number) ≡ None
+  staged_not_in_kept = ap (behind (kept_path project number)) (sym (append-nil (staged_path project number))) ∙ kept_not_staged project number number []
 
   taken_staged : map.get (changed t (changes.Renamed places.target places.kept)) places.staged ≡ map.get t places.staged
   taken_staged =
       ap (λ at. map.get (changed t (changes.Renamed places.target places.kept)) at) are.staged_is
-      ∙ ap (λ from. map.get (changed t (changes.Renamed from places.kept)) (staged_path way.project number)) are.target_is
-      ∙ ap (λ to. map.get (changed t (changes.Renamed (target_path way.project target) to)) (staged_path way.project number)) are.kept_is
-      ∙ renamed_elsewhere t (target_path way.project target) (kept_path way.project number) (staged_path way.project number)
-      staged_not_in_kept (target_not_work way.project (staged_path way.project number) target is_target (staged_is_work way.project number))
+      ∙ ap (λ from. map.get (changed t (changes.Renamed from places.kept)) (staged_path project number)) are.target_is
+      ∙ ap (λ to. map.get (changed t (changes.Renamed (target_path project target) to)) (staged_path project number)) are.kept_is
+      ∙ renamed_elsewhere t (target_path project target) (kept_path project number) (staged_path project number)
+      staged_not_in_kept (target_not_work project (staged_path project number) target is_target (staged_is_work project number))
       ∙ ap (map.get t) (sym are.staged_is)
 
+  -- the folder above the target stays where it is taken away
+  taken_parent : has_folder t (without_last (target_path project target)) ≡ true
+      → has_folder (changed t (changes.Renamed places.target places.kept)) (without_last (target_path project target)) ≡ true
+  taken_parent has =
+      subst (λ from. has_folder (changed t (changes.Renamed from places.kept)) (without_last (target_path project target)) ≡ true) (sym are.target_is)
+      (subst (λ to. has_folder (changed t (changes.Renamed (target_path project target) to)) (without_last (target_path project target)) ≡ true) (sym are.kept_is)
+      (by (without_last (target_path project target)) refl has))
+    where
+      by : (above : Option (List (List ℕ))) → without_last (target_path project target) ≡ above → has_folder t above ≡ true
+          → has_folder (changed t (changes.Renamed (target_path project target) (kept_path project number))) above ≡ true
+      by None e stands = stands
+      by (Some parent) e stands =
+          ap is_folder (folder_stays t (changed t (changes.Renamed (target_path project target) (kept_path project number))) parent
+          (renamed_elsewhere t (target_path project target) (kept_path project number) parent
+          (work_not_parent project parent (kept_path project number) target is_target (kept_is_work project number) e)
+          (target_not_parent project parent target target (inl refl) e))) ∙ stands
+
 -- once the target was taken away, what is staged can be put there
-pub put_after_take : (way : Way) (number : ℕ) (target : Target) (places : PartPlaces) → ArePlaces way.project number target places → IsPart way.journal.targets number target
-    → (t : FileTree) → IsOnWay way t → IsThere t places.target → IsThere t places.staged → map.get t places.kept ≡ None
+pub put_after_take : (project : List (List ℕ)) (number : ℕ) (target : Target) (places : PartPlaces) → ArePlaces project number target places
+    → (t : FileTree) → has_folder t (without_last (target_path project target)) ≡ true → IsThere t places.staged
     → has_place (changed t (changes.Renamed places.target places.kept)) (changes.Renamed places.staged places.target) ≡ true
-put_after_take way number target places are part t on at_target there none =
-    put_has_place way number target places are part (changed t (changes.Renamed places.target places.kept))
-    (taken_on_way way number target places are part t (inr there) (take_has_place way number target places are part t on at_target none) on)
-    (ap is_some (taken_staged way number target places are part t on) ∙ there)
-    (taken_target way number target places are part t on)
+put_after_take project number target places are t parent there =
+    put_has_place project number target places are (changed t (changes.Renamed places.target places.kept))
+    (taken_parent project number target places are t parent)
+    (ap is_some (taken_staged project number target places are t) ∙ there)
+    (taken_target project number target places are t)
 
 -- ---- the journal
 

@@ -1,10 +1,10 @@
 -- Why recovery refuses a tree, in flight or not.
-use Rattle.std.proofs.Common.{◌≡◌, ℕ, Bool, true, false, cond, nat_lt, ltb-true, List, [], ◌∷◌, length, Some, None, refl, sym, ap, ◌∙◌, inl, inr}
+use Rattle.std.proofs.Common.{◌≡◌, ℕ, Bool, true, false, cond, nat_lt, ltb-true, List, [], ◌∷◌, length, Some, None, refl, sym, ap, ◌∙◌, subst, inl, inr}
 use Rattle.std.specs.Prelude.{◌⊎◌, Option}
 use Rattle.std.specs.FinMap as map
 use Rattle.tree_dev.specs.Trees.{FileTree, entry_at, read_at, read_of}
 use Rattle.tree_dev.specs.Changes.{is_leaf, is_root}
-use Rattle.tree_dev.specs.Projects.{journal_path}
+use Rattle.tree_dev.specs.Projects.{journal_path, work_path}
 use Rattle.tree_dev.specs.declared.entry.Entry.{Entry}
 use Rattle.tree_dev.specs.declared.entry.Entry.TheVariants as entries
 use Rattle.tree_dev.specs.declared.entry.ReadAnswer.{ReadAnswer}
@@ -13,9 +13,11 @@ use Rattle.tree_dev.specs.declared.limits.LimitKind.{LimitKind}
 use Rattle.tree_dev.specs.declared.limits.TheConstants.{FILE_BYTES}
 use Rattle.tree_dev.specs.declared.fault.TreeFault.{TreeFault}
 use Rattle.tree_dev.specs.declared.fault.TreeFault.TheVariants as tree_faults
-use Rattle.install_world.specs.Recovery.{IsLong, IsOtherEntry, fault_of_journal, fault_of_part, fault_of_removal, fault_of_tree}
+use Rattle.install_world.specs.Recovery.{CanBeFinished, IsLong, IsOtherEntry, IsReadable, fault_of_journal, fault_of_part, fault_of_removal, fault_of_tree}
 use Rattle.install_world.specs.declared.fault.JournalFault.{JournalFault}
 use Rattle.install_world.specs.declared.fault.JournalFault.TheVariants as journal_faults
+use Rattle.install_world.specs.JournalText.{Says}
+use Rattle.install_world.specs.declared.journal.Journal.{Journal}
 use Rattle.install_world.specs.declared.part_fault.PartFault.{PartFault}
 use Rattle.install_world.specs.declared.part_fault.PartFault.TheVariants as part_faults
 use Rattle.install_world.specs.declared.recovery_fault.RecoverFault.TheVariants as faults
@@ -105,3 +107,25 @@ pub other_entry : (project path : List (List ℕ)) (t : FileTree) → path ≡ j
     → IsOtherEntry project path t
 other_entry project path t is (inl leaf) = record { kind = inl leaf }
 other_entry project path t is (inr folder) = record { kind = inr (is, folder) }
+
+-- ---- what recovery goes on with
+
+module _ (project : List (List ℕ)) (t : FileTree) where
+  no_text : (text : List ℕ) → map.get t (journal_path project) ≡ None → map.get t (journal_path project) ≡ Some (entries.File text) → ⊥
+  no_text text none there = cc
+
+  pub without_work : map.get t (work_path project) ≡ None → map.get t (journal_path project) ≡ None → CanBeFinished project t
+  without_work no_work none = record { work = inl no_work; readable = record { either = inl none }; says = λ text there. absurd (no_text text none there) }
+
+  pub without_text : map.get t (work_path project) ≡ Some entries.Folder → map.get t (journal_path project) ≡ None → CanBeFinished project t
+  without_text folder none = record { work = inr folder; readable = record { either = inl none }; says = λ text there. absurd (no_text text none there) }
+
+  pub with_text : (text : List ℕ) → map.get t (work_path project) ≡ Some entries.Folder → map.get t (journal_path project) ≡ Some (entries.File text) → IsReadable (journal_path project) t
+      → (journal : Journal) → Says text journal → CanBeFinished project t
+  with_text text folder there readable journal says = record {
+    work = inr folder;
+    readable = readable;
+    says = λ other also.
+        let same : text ≡ other = cc in
+        (journal, subst (λ bytes. Says bytes journal) same says);
+  }

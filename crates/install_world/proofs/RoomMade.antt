@@ -1,15 +1,13 @@
 -- Room for what a part takes away, and folders that are there.
-use Rattle.std.proofs.Common.{◌≡◌, ◌≢◌, ℕ, Bool, true, false, cond, codes, List, [], ◌∷◌, append_assoc, Option, Some, None, is_some, refl, sym, ap, ◌∙◌, inl, inr}
+use Rattle.std.proofs.Common.{◌≡◌, ◌≢◌, ℕ, Bool, true, false, cond, codes, List, [], ◌∷◌, Option, Some, None, is_some, refl, sym, ap, ◌∙◌, inl, inr}
 use Rattle.std.specs.Prelude.{Err, MatchOption}
 use Rattle.std.specs.Option.{option_map}
 use Rattle.std.specs.FinMap as map
 use Rattle.std.proofs.lemmas.Cmp.{eq_by_cmp_equiv}
 use Rattle.path_name.specs.Orders.{path_cmp_total}
-use Rattle.path_name.specs.Paths.{without_last}
 use Rattle.tree_dev.specs.Projects.{journal_path, work_path}
-use Rattle.tree_dev.specs.Trees.{FileTree, IsTree, behind, entry_at, has_folder, is_folder, kind_at, kind_of}
+use Rattle.tree_dev.specs.Trees.{FileTree, IsTree, behind, entry_at, is_folder, kind_at, kind_of}
 use Rattle.tree_dev.proofs.ProjectParts.{behind_same_head}
-use Rattle.tree_dev.proofs.Snoc.{without_last-snoc}
 use Rattle.tree_dev.specs.Changes.{changed, is_leaf, is_root}
 use Rattle.tree_dev.specs.Device.{Adds, MayAdd, Meaning}
 use Rattle.tree_dev.specs.declared.change.Change.TheVariants as changes
@@ -20,15 +18,12 @@ use Rattle.tree_dev.specs.declared.entry.Kind.TheVariants as kinds
 use Rattle.tree_dev.proofs.Changed.{get-changed}
 use Rattle.install_world.specs.Emptied as removals
 use Rattle.install_world.specs.InFlight.{IsThere, old_path}
-use Rattle.install_world.specs.Moving.{ArePlaces, HasRoom, IsOnWay, Way}
+use Rattle.install_world.specs.Moving.{ArePlaces, HasRoom}
 use Rattle.install_world.specs.PartFaults.{fault_of_removal, is_unfit}
 use Rattle.install_world.specs.declared.moving.PartPlaces.{PartPlaces}
 use Rattle.install_world.specs.declared.target.Target.{Target}
-use Rattle.install_world.proofs.PartFinish.{way_old_folder}
 use Rattle.install_world.proofs.PartPaths.{behind_itself}
 use Rattle.install_world.proofs.PlacesFree.{kept_under}
-use Rattle.install_world.proofs.RecoveryRules.{work_under}
-use Rattle.install_world.proofs.WayMoves.{entry_is}
 use Rattle.install_world.specs.declared.removal_fault.RemoveFault.{RemoveFault}
 use Rattle.install_world.specs.declared.removal_fault.RemoveFault.TheVariants as removal_faults
 
@@ -115,25 +110,15 @@ kept_is_under project number target places are = ap is_root are.kept_is ∙ kept
 
 -- ---- `.install`
 
-folder_is : (entry : Option Entry) → is_folder entry ≡ true → entry ≡ Some entries.Folder
+pub folder_is : (entry : Option Entry) → is_folder entry ≡ true → entry ≡ Some entries.Folder
 folder_is None e = absurd cc
 folder_is (Some (entries.File bytes)) e = absurd cc
 folder_is (Some entries.Folder) e = refl
 folder_is (Some entries.Other) e = absurd cc
 
-old_under : (project : List (List ℕ)) → is_root (old_path project) ≡ false
+pub old_under : (project : List (List ℕ)) → is_root (old_path project) ≡ false
 old_under [] = refl
 old_under (x ∷ xs) = refl
-
-above_old : (project : List (List ℕ)) → without_last (old_path project) ≡ Some (work_path project)
-above_old project = ap without_last (sym (append_assoc project (codes ".install" ∷ []) (codes "old" ∷ []))) ∙ without_last-snoc (work_path project) (codes "old")
-
--- it is a folder on the way
-pub work_stands : (way : Way) (t : FileTree) → IsTree t → IsOnWay way t → map.get t (work_path way.project) ≡ Some entries.Folder
-work_stands way t tree on =
-    let old = folder_is (map.get t (old_path way.project)) (ap is_folder (sym (entry_is t (old_path way.project) (old_under way.project))) ∙ way_old_folder way t on) in
-    let above = ap (has_folder t) (sym (above_old way.project)) ∙ tree.below_folders (old_path way.project) (ap is_some old) in
-    sym (entry_is t (work_path way.project) (work_under way.project)) ∙ folder_is (entry_at t (work_path way.project)) above
 
 pub work_not_journal : (project : List (List ℕ)) → work_path project ≢ journal_path project
 work_not_journal project same =

@@ -1,10 +1,10 @@
 -- A journal that stands, whether its install is in flight or not, and what its finishing keeps of what is to come of it.
-use Rattle.std.specs.Prelude.{◌≡◌, ◌≢◌, ◌⊎◌, ℕ, ◌<◌, ◌^◌, List, length, true, Some, None}
+use Rattle.std.specs.Prelude.{◌≡◌, ◌≢◌, ◌⊎◌, ℕ, ◌<◌, ◌≤◌, ◌^◌, List, length, true, Some, None}
 use Rattle.std.specs.FinMap as map
 use Rattle.tree_dev.specs.Trees.{FileTree}
-use Rattle.tree_dev.specs.Projects.{is_project_part, is_within, journal_path}
+use Rattle.tree_dev.specs.Projects.{file_at, is_project_part, is_within, journal_path}
 use Rattle.tree_dev.specs.declared.entry.Entry.TheVariants.{Folder}
-use Rattle.install_world.specs.InFlight.{HasJournal, finished_by}
+use Rattle.install_world.specs.InFlight.{Files, HasJournal, IsFinishedProject, Placed, finished_by, part_at}
 use Rattle.install_world.specs.Removals.{OnlyRemoved}
 use Rattle.install_world.specs.declared.journal.Journal.{Journal}
 
@@ -33,3 +33,15 @@ pub record MakesReady (at kept : List (List ℕ)) (was now : FileTree) : Type 0 
 pub record IsWithout (at : List (List ℕ)) (was now : FileTree) : Type 0 where
   pub gone : map.get now at ≡ None
   pub others : (path : List (List ℕ)) → path ≢ at → map.get now path ≡ map.get was path
+
+-- Recovery gives both trees the same project.
+abbrev pub KeepsFinished : List (List ℕ) → FileTree → FileTree → Type 0
+KeepsFinished project t u = (files : Files) → IsFinishedProject project t files → IsFinishedProject project u files
+
+-- Parts before one of a number are done as finishing does them, and the files at and below the targets of that one and of
+-- those behind it are as they were, as are all that are at no target.
+pub record StopsAt (project : List (List ℕ)) (journal : Journal) (number : ℕ) (t u : FileTree) : Type 0 where
+  pub done : (path : List (List ℕ)) → is_project_part project path ≡ true → (part : Placed) → part_at project journal.targets path ≡ Some part → part.number < number
+      → file_at u path ≡ finished_by project journal.targets t path
+  pub left : (path : List (List ℕ)) → is_project_part project path ≡ true
+      → ((part : Placed) → part_at project journal.targets path ≡ Some part → number ≤ part.number) → file_at u path ≡ file_at t path

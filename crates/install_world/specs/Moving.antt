@@ -1,10 +1,11 @@
 -- The way of a tree from one project to another by a journal, and the places of a part on it.
-use Rattle.std.specs.Prelude.{◌≡◌, ◌⊎◌, ℕ, ◌<◌, ◌^◌, List, length, Bool, true, Some, None}
+use Rattle.std.specs.Prelude.{◌≡◌, ◌⊎◌, ℕ, ◌<◌, ◌^◌, List, length, Bool, true, false, Some, None}
 use Rattle.std.specs.FinMap as map
-use Rattle.tree_dev.specs.Trees.{FileTree, behind}
+use Rattle.path_name.specs.Paths.{without_last}
+use Rattle.tree_dev.specs.Trees.{FileTree, behind, entry_at, has_folder, is_folder}
 use Rattle.tree_dev.specs.Projects.{journal_path}
 use Rattle.tree_dev.specs.declared.entry.Entry.TheVariants.{File}
-use Rattle.install_world.specs.InFlight.{Files, HasJournal, IsInFlight, IsThere, kept_path, staged_path, target_path}
+use Rattle.install_world.specs.InFlight.{Files, HasJournal, IsInFlight, IsThere, kept_path, old_path, staged_path, target_path}
 use Rattle.install_world.specs.declared.journal.Journal.{Journal}
 use Rattle.install_world.specs.declared.moving.PartPlaces.{PartPlaces}
 use Rattle.install_world.specs.Targets.{IsTargetPath}
@@ -39,3 +40,9 @@ pub record ChangesPlaces (places : PartPlaces) (t now : FileTree) : Type 0 where
 -- Nothing stands where the target of a part goes, if it is still to be taken away.
 pub record HasRoom (gone : Bool) (places : PartPlaces) (t : FileTree) : Type 0 where
   pub free : IsThere t places.target → (gone ≡ true) ⊎ IsThere t places.staged → map.get t places.kept ≡ None
+
+-- The folders that the moves of a part need are there: the one that keeps what is taken away, and the one above the target
+-- where something is staged that is to be put there.
+pub record HasFolders (project : List (List ℕ)) (number : ℕ) (target : Target) (t : FileTree) : Type 0 where
+  pub old_folder : is_folder (entry_at t (old_path project)) ≡ true
+  pub parent : target.gone ≡ false → IsThere t (staged_path project number) → has_folder t (without_last (target_path project target)) ≡ true

@@ -24,3 +24,11 @@ is_unfit (Err (faults.OtherEntry at)) = true
 is_unfit (Err (faults.Vanished at)) = true
 is_unfit (Err faults.DeviceFault) = false
 is_unfit (Err faults.OutOfMemory) = false
+
+-- an entry was not as earlier calls left it
+abbrev pub is_vanished : {X : Type 0} → Result X PartFault → Bool
+is_vanished (Ok x) = false
+is_vanished (Err (faults.OtherEntry at)) = false
+is_vanished (Err (faults.Vanished at)) = true
+is_vanished (Err faults.DeviceFault) = false
+is_vanished (Err faults.OutOfMemory) = false

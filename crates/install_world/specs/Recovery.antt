@@ -6,7 +6,8 @@ use Rattle.tree_dev.specs.Changes.{is_leaf}
 use Rattle.tree_dev.specs.Projects.{journal_path, work_path}
 use Rattle.tree_dev.specs.declared.entry.Entry.{Entry}
 use Rattle.install_world.specs.InFlight.{Files, HasFiles, HasSurroundings, NoJournal}
-use Rattle.install_world.specs.JournalText.{IsBadJournal}
+use Rattle.install_world.specs.JournalText.{IsBadJournal, Says}
+use Rattle.install_world.specs.declared.journal.Journal.{Journal}
 use Rattle.install_world.specs.Moving.{Way}
 use Rattle.tree_dev.specs.declared.entry.Entry.TheVariants.{File, Folder}
 use Rattle.tree_dev.specs.declared.limits.TheConstants.{FILE_BYTES}
@@ -90,9 +91,26 @@ is_refused (Err (faults.Limit kind)) = true
 is_refused (Err faults.DeviceFault) = false
 is_refused (Err faults.OutOfMemory) = false
 
+-- An entry was not as earlier calls left it.
+abbrev pub is_vanished : {X : Type 0} → Result X RecoverFault → Bool
+is_vanished (Ok x) = false
+is_vanished (Err (faults.BadJournal at)) = false
+is_vanished (Err (faults.OtherEntry at)) = false
+is_vanished (Err (faults.Vanished at)) = true
+is_vanished (Err (faults.Limit kind)) = false
+is_vanished (Err faults.DeviceFault) = false
+is_vanished (Err faults.OutOfMemory) = false
+
 -- A file is at a path, of no more bytes than a file may have, or nothing is.
 pub record IsReadable (at : List (List ℕ)) (t : FileTree) : Type 0 where
   pub either : (map.get t at ≡ None) ⊎ ((text : List ℕ) × (map.get t at ≡ Some (File text)) × (length text ≤ FILE_BYTES))
+
+-- What recovery goes on with: `.install` is a folder or absent, and at its journal nothing is, or a file of no more bytes than
+-- a file may have, whose text says a journal.
+pub record CanBeFinished (project : List (List ℕ)) (t : FileTree) : Type 0 where
+  pub work : (map.get t (work_path project) ≡ None) ⊎ (map.get t (work_path project) ≡ Some Folder)
+  pub readable : IsReadable (journal_path project) t
+  pub says : (text : List ℕ) → map.get t (journal_path project) ≡ Some (File text) → (journal : Journal) × Says text journal
 
 -- Another kind of entry stands at a path than recovery needs there: it is no folder, or a folder stands where the journal goes.
 pub record IsOtherEntry (project path : List (List ℕ)) (t : FileTree) : Type 0 where

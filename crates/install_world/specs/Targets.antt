@@ -17,6 +17,10 @@ pub record IsTargetPath (path : List (List ℕ)) : Type 0 where
   pub segments : IsPath path
   pub place : (path ≡ lock_target) ⊎ BeginsWith path vendor_target
 
+-- The path of each target is one of these.
+abbrev pub AreTargetPaths : List Target → Type 0
+AreTargetPaths targets = All (λ target. IsTargetPath target.path) targets
+
 -- Neither path is a prefix of the other, so what is done at one leaves the other alone.
 pub record AreApart (first second : List (List ℕ)) : Type 0 where
   pub not_below : BeginsWith first second → ⊥

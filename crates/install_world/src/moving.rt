@@ -12,7 +12,7 @@ ghost use Rattle.tree_dev.specs.declared.did.Did.TheVariants as dids;
 ghost use Rattle.tree_dev.specs.declared.entry.Kind.TheVariants as kinds;
 ghost use Rattle.install_world.specs.InFlight.{IsPart, IsPartDone, IsThere, staged_path, target_path};
 ghost use Rattle.install_world.specs.Finishing.{FinishesAlike, Stands};
-ghost use Rattle.install_world.specs.Moving.{Way, IsOnWay, ArePlaces, ChangesPlaces, HasRoom};
+ghost use Rattle.install_world.specs.Moving.{Way, IsOnWay, ArePlaces, ChangesPlaces, HasFolders, HasRoom};
 ghost use Rattle.install_world.specs.Removals.{WritesNone};
 ghost use Rattle.install_world.specs.declared.journal.Journal.{Journal as Journals};
 ghost use Rattle.install_world.specs.declared.target.Target.{Target as Targets};
@@ -43,9 +43,9 @@ fn take_away<T: Tree>(tree: &mut T, places: &PartPlaces) -> Result<Did, Failed>
     ensures alike { OfTold (T.meaning tree.old) (λ t. (project : List (List ℕ)) (journal : Journals) (number : ℕ) (target : Targets)
         → ArePlaces project number target places.now → IsPart journal.targets number target → target.gone ≡ true → Stands project journal t
         → FinishesAlike project journal t (reading (T.meaning tree.new).disks.now)) }
-    ensures fits { IfOk result (λ did. OfTold (T.meaning tree.old) (λ t. (way : Way) (number : ℕ) (target : Targets)
-        → ArePlaces way.project number target places.now → IsPart way.journal.targets number target
-        → IsOnWay way t → HasRoom true places.now t → did ≡ dids.Done)) }
+    ensures fits { IfOk result (λ did. OfTold (T.meaning tree.old) (λ t. (project : List (List ℕ)) (number : ℕ) (target : Targets)
+        → ArePlaces project number target places.now → HasFolders project number target t
+        → HasRoom true places.now t → did ≡ dids.Done)) }
 {
     match tree.stat(&places.target)? {
         Kind::Absent => Ok(Did::Done),
@@ -75,9 +75,9 @@ fn make_way<T: Tree>(tree: &mut T, places: &PartPlaces, staged_is_file: bool) ->
     ensures alike { OfTold (T.meaning tree.old) (λ t. (project : List (List ℕ)) (journal : Journals) (number : ℕ) (target : Targets)
         → ArePlaces project number target places.now → IsPart journal.targets number target → IsThere t places.now.staged → Stands project journal t
         → FinishesAlike project journal t (reading (T.meaning tree.new).disks.now)) }
-    ensures fits { IfOk result (λ did. OfTold (T.meaning tree.old) (λ t. (way : Way) (number : ℕ) (target : Targets)
-        → ArePlaces way.project number target places.now → IsPart way.journal.targets number target
-        → IsOnWay way t → IsThere t places.now.staged → staged_is_file ≡ is_file (entry_at t places.now.staged) → HasRoom false places.now t
+    ensures fits { IfOk result (λ did. OfTold (T.meaning tree.old) (λ t. (project : List (List ℕ)) (number : ℕ) (target : Targets)
+        → ArePlaces project number target places.now → HasFolders project number target t
+        → target.gone ≡ false → IsThere t places.now.staged → staged_is_file ≡ is_file (entry_at t places.now.staged) → HasRoom false places.now t
         → (did ≡ dids.Done) × OfTold (T.meaning tree.new) (λ u. has_place u (changes.Renamed places.now.staged places.now.target) ≡ true))) }
 {
     let kind = tree.stat(&places.target)?;
@@ -100,9 +100,9 @@ fn put<T: Tree>(tree: &mut T, places: &PartPlaces, staged_is_file: bool) -> Resu
     ensures alike { OfTold (T.meaning tree.old) (λ t. (project : List (List ℕ)) (journal : Journals) (number : ℕ) (target : Targets)
         → ArePlaces project number target places.now → IsPart journal.targets number target → target.gone ≡ false → IsThere t places.now.staged → Stands project journal t
         → FinishesAlike project journal t (reading (T.meaning tree.new).disks.now)) }
-    ensures fits { IfOk result (λ did. OfTold (T.meaning tree.old) (λ t. (way : Way) (number : ℕ) (target : Targets)
-        → ArePlaces way.project number target places.now → IsPart way.journal.targets number target
-        → IsOnWay way t → IsThere t places.now.staged → staged_is_file ≡ is_file (entry_at t places.now.staged) → HasRoom false places.now t → did ≡ dids.Done)) }
+    ensures fits { IfOk result (λ did. OfTold (T.meaning tree.old) (λ t. (project : List (List ℕ)) (number : ℕ) (target : Targets)
+        → ArePlaces project number target places.now → HasFolders project number target t
+        → target.gone ≡ false → IsThere t places.now.staged → staged_is_file ≡ is_file (entry_at t places.now.staged) → HasRoom false places.now t → did ≡ dids.Done)) }
 {
     match make_way(tree, places, staged_is_file)? {
         Did::Misplaced => Ok(Did::Misplaced),
@@ -129,10 +129,10 @@ pub fn move_part<T: Tree>(tree: &mut T, places: &PartPlaces, gone: bool) -> Resu
     ensures alike { OfTold (T.meaning tree.old) (λ t. (project : List (List ℕ)) (journal : Journals) (number : ℕ) (target : Targets)
         → ArePlaces project number target places.now → IsPart journal.targets number target → target.gone ≡ gone → Stands project journal t
         → FinishesAlike project journal t (reading (T.meaning tree.new).disks.now)) }
-    // Over a tree that tells and is on the way, it is Done where nothing stands in the way of what is taken away.
-    ensures fits { IfOk result (λ did. OfTold (T.meaning tree.old) (λ t. (way : Way) (number : ℕ) (target : Targets)
-        → ArePlaces way.project number target places.now → IsPart way.journal.targets number target
-        → target.gone ≡ gone → IsOnWay way t → HasRoom gone places.now t → did ≡ dids.Done)) }
+    // Over a tree that tells it is Done where the folders that it needs are there, and nothing is where it takes something.
+    ensures fits { IfOk result (λ did. OfTold (T.meaning tree.old) (λ t. (project : List (List ℕ)) (number : ℕ) (target : Targets)
+        → ArePlaces project number target places.now → HasFolders project number target t
+        → target.gone ≡ gone → HasRoom gone places.now t → did ≡ dids.Done)) }
 {
     if gone {
         return take_away(tree, places);

@@ -1,6 +1,6 @@
 //! The parts of a job that was committed, each finished.
 
-ghost use Rattle.std.specs.Prelude.{◌≡◌, ◌⊎◌, ◌++◌, ℕ, List, true, false, None, Err, IfOk, OnOk, MatchOption, is_err, is_some};
+ghost use Rattle.std.specs.Prelude.{◌≡◌, ◌≢◌, ◌⊎◌, ◌++◌, ℕ, List, [], true, false, Some, None, Err, IfOk, OnOk, MatchOption, is_err, is_some};
 ghost use Rattle.std.specs.FinMap as map;
 ghost use Rattle.tree_dev.specs.Trees.{FileTree, entry_at, has_folder, is_folder, kind_at};
 ghost use Rattle.path_name.specs.Decimals.{decimal_text};
@@ -8,13 +8,14 @@ ghost use Rattle.path_name.specs.Paths.{without_last};
 ghost use Rattle.tree_dev.specs.Changes.{is_leaf, is_root};
 ghost use Rattle.tree_dev.specs.Device.{OfTold, OnlyRead};
 ghost use Rattle.tree_dev.specs.Disk.{reading};
+ghost use Rattle.tree_dev.specs.Projects.{file_at};
 ghost use Rattle.tree_dev.specs.Steady.{EachImage, IsWhole, Through};
-ghost use Rattle.install_world.specs.InFlight.{AreAllDone, IsPart, IsPartDone, IsThere};
-ghost use Rattle.install_world.specs.Finishing.{FinishesAlike, MakesReady, OnlyMade, Stands};
-ghost use Rattle.install_world.specs.Moving.{Way, IsOnWay, ArePlaces, HasRoom};
+ghost use Rattle.install_world.specs.InFlight.{AreAllDone, IsPart, IsPartDone, IsThere, old_path, target_path};
+ghost use Rattle.install_world.specs.Finishing.{FinishesAlike, MakesReady, OnlyMade, Stands, StopsAt};
+ghost use Rattle.install_world.specs.Moving.{Way, IsOnWay, ArePlaces, HasFolders, HasRoom};
 ghost use Rattle.install_world.specs.Removals.{OnlyRemoved, Removes, WritesNone};
-ghost use Rattle.install_world.specs.PartFaults.{is_device_fault, is_unfit};
-ghost use Rattle.install_world.specs.Targets.{IsTargetPath};
+ghost use Rattle.install_world.specs.PartFaults.{is_device_fault, is_unfit, is_vanished};
+ghost use Rattle.install_world.specs.Targets.{AreTargetPaths, IsTargetPath};
 ghost use Rattle.install_world.specs.declared.part_fault.PartFault.TheVariants as faults;
 ghost use Rattle.install_world.specs.declared.journal.Journal.{Journal as Journals};
 ghost use Rattle.install_world.specs.declared.target.Target.{Target as Targets};
@@ -62,6 +63,8 @@ fn make_missing<T: Tree>(alloc: Global, tree: &mut T, at: &Path) -> Result<(), P
     ensures writes_none { WritesNone (T.meaning tree.old) (T.meaning tree.new) (is_device_fault result) }
     ensures makes { OnlyMade at.now (reading (T.meaning tree.old).disks.now) (reading (T.meaning tree.new).disks.now) }
     ensures not_other { (path : List (List ℕ)) → result ≡ Err (faults.OtherEntry path) → ⊥ }
+    ensures never_vanished { OfTold (T.meaning tree.old) (λ t. map.get t at.now ≡ None → has_folder t (without_last at.now) ≡ true → is_vanished result ≡ false) }
+    ensures there { OnOk result (OfTold (T.meaning tree.new) (λ t. is_folder (entry_at t at.now) ≡ true)) }
 {
     match tree.make_dir(at)? {
         Made::New => Ok(()),
@@ -76,6 +79,8 @@ pub(crate) fn make_folder<T: Tree>(alloc: Global, tree: &mut T, at: &Path) -> Re
     ensures still { OfTold (T.meaning tree.old) (λ t. is_folder (entry_at t at.now) ≡ true → (T.meaning tree.new).disks ≡ (T.meaning tree.old).disks) }
     ensures fits { OfTold (T.meaning tree.old) (λ t. is_folder (entry_at t at.now) ≡ true → is_unfit result ≡ false) }
     ensures cause { (path : List (List ℕ)) → result ≡ Err (faults.OtherEntry path) → OfTold (T.meaning tree.new) (λ t. is_leaf (entry_at t path) ≡ true) }
+    ensures never_vanished { OfTold (T.meaning tree.old) (λ t. has_folder t (without_last at.now) ≡ true → is_vanished result ≡ false) }
+    ensures there { OnOk result (OfTold (T.meaning tree.new) (λ t. is_folder (entry_at t at.now) ≡ true)) }
 {
     match tree.stat(at)? {
         Kind::Folder => Ok(()),
@@ -94,6 +99,9 @@ fn make_folders<T: Tree>(
     ensures writes_none { WritesNone (T.meaning tree.old) (T.meaning tree.new) (is_device_fault result) }
     ensures makes { OnlyMade (project.now ++ path.now) (reading (T.meaning tree.old).disks.now) (reading (T.meaning tree.new).disks.now) }
     ensures cause { (path : List (List ℕ)) → result ≡ Err (faults.OtherEntry path) → OfTold (T.meaning tree.new) (λ t. is_leaf (entry_at t path) ≡ true) }
+    ensures never_vanished { OfTold (T.meaning tree.old) (λ t. is_folder (entry_at t project.now) ≡ true → is_vanished result ≡ false) }
+    ensures there { OnOk result (OfTold (T.meaning tree.old) (λ t. is_folder (entry_at t project.now) ≡ true
+        → OfTold (T.meaning tree.new) (λ u. is_folder (entry_at u (project.now ++ path.now)) ≡ true))) }
 {
     path_is_segments(path);
     let names = path.segments(alloc)?;
@@ -115,6 +123,9 @@ fn make_above<T: Tree>(
     ensures writes_none { WritesNone (T.meaning tree.old) (T.meaning tree.new) (is_device_fault result) }
     ensures makes { OnlyMade (project.now ++ target.now) (reading (T.meaning tree.old).disks.now) (reading (T.meaning tree.new).disks.now) }
     ensures cause { (path : List (List ℕ)) → result ≡ Err (faults.OtherEntry path) → OfTold (T.meaning tree.new) (λ t. is_leaf (entry_at t path) ≡ true) }
+    ensures never_vanished { OfTold (T.meaning tree.old) (λ t. is_folder (entry_at t project.now) ≡ true → is_vanished result ≡ false) }
+    ensures there { OnOk result (OfTold (T.meaning tree.old) (λ t. is_folder (entry_at t project.now) ≡ true → (above : List (List ℕ)) → without_last target.now ≡ Some above
+        → OfTold (T.meaning tree.new) (λ u. is_folder (entry_at u (project.now ++ above)) ≡ true))) }
 {
     match target.parent(alloc)? {
         None => Ok(()),
@@ -135,6 +146,9 @@ fn make_up_to<T: Tree>(
     ensures still { OfTold (T.meaning tree.old) (λ t. is_folder (entry_at t parent.now) ≡ true → (T.meaning tree.new).disks ≡ (T.meaning tree.old).disks) }
     ensures fits { OfTold (T.meaning tree.old) (λ t. is_folder (entry_at t parent.now) ≡ true → is_unfit result ≡ false) }
     ensures cause { (path : List (List ℕ)) → result ≡ Err (faults.OtherEntry path) → OfTold (T.meaning tree.new) (λ t. is_leaf (entry_at t path) ≡ true) }
+    ensures never_vanished { OfTold (T.meaning tree.old) (λ t. is_folder (entry_at t project.now) ≡ true → is_vanished result ≡ false) }
+    ensures there { OnOk result (OfTold (T.meaning tree.old) (λ t. is_folder (entry_at t project.now) ≡ true → (above : List (List ℕ)) → without_last target.now ≡ Some above
+        → parent.now ≡ project.now ++ above → OfTold (T.meaning tree.new) (λ u. is_folder (entry_at u parent.now) ≡ true))) }
 {
     match tree.stat(parent)? {
         Kind::Folder => Ok(()),
@@ -155,6 +169,9 @@ fn make_parents<T: Tree>(
         → (T.meaning tree.new).disks ≡ (T.meaning tree.old).disks) }
     ensures fits { OfTold (T.meaning tree.old) (λ t. has_folder t (without_last (project.now ++ target.now)) ≡ true → is_unfit result ≡ false) }
     ensures cause { (path : List (List ℕ)) → result ≡ Err (faults.OtherEntry path) → OfTold (T.meaning tree.new) (λ t. is_leaf (entry_at t path) ≡ true) }
+    ensures never_vanished { OfTold (T.meaning tree.old) (λ t. is_folder (entry_at t project.now) ≡ true → is_vanished result ≡ false) }
+    ensures there { OnOk result (OfTold (T.meaning tree.old) (λ t. is_folder (entry_at t project.now) ≡ true → target.now ≢ []
+        → OfTold (T.meaning tree.new) (λ u. has_folder u (without_last (project.now ++ target.now)) ≡ true))) }
 {
     let whole = project.join(alloc, target)?;
     match whole.parent(alloc)? {
@@ -178,6 +195,7 @@ fn is_there<T: Tree>(tree: &mut T, at: &Path) -> Result<bool, Failed>
 /// Whether a part has something staged that is to be put at its target.
 fn is_to_be_put<T: Tree>(tree: &mut T, places: &PartPlaces, gone: bool) -> Result<bool, Failed>
     ensures only_read { OnlyRead (T.meaning tree.old) (T.meaning tree.new) (is_err result) }
+    ensures needed { IfOk result (λ needed. needed ≡ false → OfTold (T.meaning tree.old) (λ t. gone ≡ false → IsThere t places.now.staged → ⊥)) }
 {
     if gone {
         return Ok(false);
@@ -199,6 +217,9 @@ fn make_needed<T: Tree>(
         → (T.meaning tree.new).disks ≡ (T.meaning tree.old).disks) }
     ensures fits { OfTold (T.meaning tree.old) (λ t. has_folder t (without_last (project.now ++ target.now.path)) ≡ true → is_unfit result ≡ false) }
     ensures cause { (path : List (List ℕ)) → result ≡ Err (faults.OtherEntry path) → OfTold (T.meaning tree.new) (λ t. is_leaf (entry_at t path) ≡ true) }
+    ensures never_vanished { OfTold (T.meaning tree.old) (λ t. is_folder (entry_at t project.now) ≡ true → is_vanished result ≡ false) }
+    ensures there { OnOk result (OfTold (T.meaning tree.old) (λ t. is_folder (entry_at t project.now) ≡ true → target.now.path ≢ [] → target.now.gone ≡ false → IsThere t places.now.staged
+        → OfTold (T.meaning tree.new) (λ u. has_folder u (without_last (project.now ++ target.now.path)) ≡ true))) }
 {
     let needed = is_to_be_put(tree, places, target.gone)?;
     if needed {
@@ -353,6 +374,11 @@ fn prepare_part<T: Tree>(
     ensures fits { OfTold (T.meaning tree.old) (λ t. is_root places.now.kept ≡ false → has_folder t (without_last (project.now ++ target.now.path)) ≡ true
         → is_unfit result ≡ false) }
     ensures cause { (path : List (List ℕ)) → result ≡ Err (faults.OtherEntry path) → OfTold (T.meaning tree.new) (λ t. is_leaf (entry_at t path) ≡ true) }
+    ensures never_vanished { OfTold (T.meaning tree.old) (λ t. is_folder (entry_at t project.now) ≡ true → is_root places.now.kept ≡ false → is_vanished result ≡ false) }
+    ensures folders { OnOk result (OfTold (T.meaning tree.old) (λ t. is_folder (entry_at t project.now) ≡ true → (number : ℕ) → ArePlaces project.now number target.now places.now
+        → is_folder (entry_at t (old_path project.now)) ≡ true → OfTold (T.meaning tree.new) (HasFolders project.now number target.now))) }
+    ensures stays { (path : List (List ℕ)) → result ≡ Err (faults.OtherEntry path)
+        → OnlyMade (project.now ++ target.now.path) (reading (T.meaning tree.old).disks.now) (reading (T.meaning tree.new).disks.now) }
 {
     make_needed(alloc, tree, project, target, places)?;
     clear_kept(alloc, tree, places, target.gone)
@@ -381,6 +407,14 @@ fn finish_part<T: Tree>(
         → way.project ≡ project.now → IsPart way.journal.targets number target.now
         → EachImage (T.meaning tree.old) (IsOnWay way) → is_unfit result ≡ false) }
     ensures cause { (path : List (List ℕ)) → result ≡ Err (faults.OtherEntry path) → OfTold (T.meaning tree.new) (λ t. is_leaf (entry_at t path) ≡ true) }
+    ensures never_vanished { OfTold (T.meaning tree.old) (λ t. IsTargetPath target.now.path → is_folder (entry_at t (old_path project.now)) ≡ true → is_vanished result ≡ false) }
+    ensures old { OfTold (T.meaning tree.old) (λ t. IsTargetPath target.now.path → is_folder (entry_at t (old_path project.now)) ≡ true
+        → is_folder (entry_at (reading (T.meaning tree.new).disks.now) (old_path project.now)) ≡ true) }
+    ensures stays { (path : List (List ℕ)) → result ≡ Err (faults.OtherEntry path)
+        → OnlyMade (project.now ++ target.now.path) (reading (T.meaning tree.old).disks.now) (reading (T.meaning tree.new).disks.now) }
+    ensures leaves { OfTold (T.meaning tree.old) (λ t. (journal : Journals) → Stands project.now journal t → IsPart journal.targets number target.now
+        → (j : ℕ) (other : Targets) → (number ≡ j → ⊥) → IsPart journal.targets j other → (below : List (List ℕ))
+        → file_at (reading (T.meaning tree.new).disks.now) (target_path project.now other ++ below) ≡ file_at t (target_path project.now other ++ below)) }
 {
     let places = places_of(alloc, project, number, target)?;
     prepare_part(alloc, tree, project, target, &places)?;
@@ -409,6 +443,11 @@ pub(crate) fn finish_parts<T: Tree>(
         → way.project ≡ project.now → way.journal.targets ≡ targets.now
         → EachImage (T.meaning tree.old) (IsOnWay way) → is_unfit result ≡ false) }
     ensures cause { (path : List (List ℕ)) → result ≡ Err (faults.OtherEntry path) → OfTold (T.meaning tree.new) (λ t. is_leaf (entry_at t path) ≡ true) }
+    ensures never_vanished { OfTold (T.meaning tree.old) (λ t. AreTargetPaths targets.now → is_folder (entry_at t (old_path project.now)) ≡ true → is_vanished result ≡ false) }
+    ensures old { OfTold (T.meaning tree.old) (λ t. AreTargetPaths targets.now → is_folder (entry_at t (old_path project.now)) ≡ true
+        → is_folder (entry_at (reading (T.meaning tree.new).disks.now) (old_path project.now)) ≡ true) }
+    ensures stops { (path : List (List ℕ)) → result ≡ Err (faults.OtherEntry path) → OfTold (T.meaning tree.old) (λ t. (journal : Journals)
+        → journal.targets ≡ targets.now → Stands project.now journal t → (number : ℕ) × StopsAt project.now journal number t (reading (T.meaning tree.new).disks.now)) }
 {
     'targets: for (number, target) in targets.iter().enumerate() {
         finish_part(alloc, tree, project, number as u64, target)?;

@@ -11,12 +11,14 @@ ghost use Rattle.tree_dev.specs.Projects.{journal_path, work_path};
 ghost use Rattle.tree_dev.specs.declared.entry.Entry.TheVariants as entries;
 ghost use Rattle.tree_dev.specs.declared.limits.LimitKind.{LimitKind as Limits};
 ghost use Rattle.tree_dev.specs.declared.limits.LimitKind.TheVariants as limits;
-ghost use Rattle.install_world.specs.InFlight.{Files, HasFiles, IsFinishedProject, IsInFlight, IsThere, NoJournal};
-ghost use Rattle.install_world.specs.JournalText.{IsBadJournal};
+ghost use Rattle.install_world.specs.Finishing.{KeepsFinished, StopsAt};
+ghost use Rattle.install_world.specs.InFlight.{Files, HasFiles, HasJournal, IsFinishedProject, IsInFlight, IsThere, NoJournal};
+ghost use Rattle.install_world.specs.JournalText.{IsBadJournal, Says};
+ghost use Rattle.install_world.specs.declared.journal.Journal.{Journal as Journals};
 ghost use Rattle.install_world.specs.Removals.{OnlyRemoved, WritesNone};
 ghost use Rattle.install_world.specs.declared.recovery_fault.RecoverFault.TheVariants as faults;
 ghost use Rattle.install_world.specs.declared.recovery_fault.Recovered.TheVariants as did;
-ghost use Rattle.install_world.specs.Recovery.{CanRecover, HasBadJournal, IsLong, IsOtherEntry, IsReadable, IsRecovered, ended_by, is_device_fault, is_refused, recovered_in};
+ghost use Rattle.install_world.specs.Recovery.{CanBeFinished, CanRecover, HasBadJournal, IsLong, IsOtherEntry, IsReadable, IsRecovered, ended_by, is_device_fault, is_refused, is_vanished, recovered_in};
 
 use crate::ending::finish_journal;
 use crate::{RecoverFault, Recovered, read_journal, remove_folder};
@@ -35,6 +37,8 @@ fn read_text<T: Tree>(alloc: Global, tree: &mut T, at: &Path) -> Result<Option<T
         × OfTold (T.meaning tree.new) (λ t. is_root path ≡ false → (is_leaf (entry_at t path) ≡ true) ⊎ (map.get t path ≡ Some entries.Folder)) }
     ensures limit { (limit : Limits) → result ≡ Err (faults.Limit limit) → (limit ≡ limits.FileBytes at.now) × (OnlyRead (T.meaning tree.old) (T.meaning tree.new) false
         × OfTold (T.meaning tree.old) (λ t. is_root at.now ≡ false → IsLong at.now t)) }
+    ensures never_vanished { is_vanished result ≡ false }
+    ensures readable { OnOk result (OfTold (T.meaning tree.old) (λ t. is_root at.now ≡ false → IsReadable at.now t)) }
 {
     match tree.read(alloc, at, FILE_BYTES)? {
         ReadAnswer::Bytes(text) => Ok(Some(text)),
@@ -61,6 +65,9 @@ fn take_install_away<T: Tree>(
     ensures fits { OfTold (T.meaning tree.old) (λ t. map.get t work.now ≡ Some entries.Folder → is_refused result ≡ false) }
     ensures not_other { (path : List (List ℕ)) → result ≡ Err (faults.OtherEntry path) → ⊥ }
     ensures not_limit { (limit : Limits) → result ≡ Err (faults.Limit limit) → ⊥ }
+    ensures never_vanished { OfTold (T.meaning tree.old) (λ t. map.get t work.now ≡ Some entries.Folder → is_vanished result ≡ false) }
+    ensures again { OfTold (T.meaning tree.old) (λ t. (project : List (List ℕ)) → work.now ≡ work_path project → NoJournal project t
+        → KeepsFinished project t (reading (T.meaning tree.new).disks.now)) }
 {
     tree.barrier()?;
     remove_folder(alloc, tree, work)?;
@@ -91,6 +98,14 @@ fn finish_text<T: Tree>(
         → is_refused result ≡ false) }
     ensures other { (path : List (List ℕ)) → result ≡ Err (faults.OtherEntry path) → OfTold (T.meaning tree.new) (λ t. is_leaf (entry_at t path) ≡ true) }
     ensures not_limit { (limit : Limits) → result ≡ Err (faults.Limit limit) → ⊥ }
+    ensures never_vanished { OfTold (T.meaning tree.old) (λ t. work.now ≡ work_path project.now → at.now ≡ journal_path project.now
+        → map.get t at.now ≡ Some (entries.File text.now) → length text.now < 2 ^ 64 → is_vanished result ≡ false) }
+    ensures again { OfTold (T.meaning tree.old) (λ t. work.now ≡ work_path project.now → at.now ≡ journal_path project.now
+        → map.get t at.now ≡ Some (entries.File text.now) → length text.now < 2 ^ 64 → KeepsFinished project.now t (reading (T.meaning tree.new).disks.now)) }
+    ensures says { OnOk result ((journal : Journals) × Says text.now journal) }
+    ensures stops { (path : List (List ℕ)) → result ≡ Err (faults.OtherEntry path) → OfTold (T.meaning tree.old) (λ t. (journal : Journals) → at.now ≡ journal_path project.now
+        → map.get t at.now ≡ Some (entries.File text.now) → length text.now < 2 ^ 64 → Says text.now journal
+        → (number : ℕ) × StopsAt project.now journal number t (reading (T.meaning tree.new).disks.now)) }
 {
     let journal = read_journal(alloc, text)?;
     tree.barrier()?;
@@ -123,6 +138,11 @@ fn finish_claimed<T: Tree>(
     ensures limit { (limit : Limits) → result ≡ Err (faults.Limit limit) → work.now ≡ work_path project.now
         → (limit ≡ limits.FileBytes (journal_path project.now)) × (OnlyRead (T.meaning tree.old) (T.meaning tree.new) false
         × OfTold (T.meaning tree.old) (IsLong (journal_path project.now))) }
+    ensures never_vanished { OfTold (T.meaning tree.old) (λ t. work.now ≡ work_path project.now → map.get t work.now ≡ Some entries.Folder → is_vanished result ≡ false) }
+    ensures again { OfTold (T.meaning tree.old) (λ t. work.now ≡ work_path project.now → KeepsFinished project.now t (reading (T.meaning tree.new).disks.now)) }
+    ensures only { OnOk result (OfTold (T.meaning tree.old) (λ t. work.now ≡ work_path project.now → map.get t work.now ≡ Some entries.Folder → CanBeFinished project.now t)) }
+    ensures stops { (path : List (List ℕ)) → result ≡ Err (faults.OtherEntry path) → OfTold (T.meaning tree.old) (λ t. (journal : Journals) → work.now ≡ work_path project.now
+        → HasJournal project.now t journal → (number : ℕ) × StopsAt project.now journal number t (reading (T.meaning tree.new).disks.now)) }
 {
     let at = work.child(alloc, b"journal")?;
     match read_text(alloc, tree, &at)? {
@@ -133,12 +153,14 @@ fn finish_claimed<T: Tree>(
 
 /// Finishes an install that was committed and cut off, or takes one away that was not committed. It can be stopped and run
 /// again at any moment. `NothingToDo`: there is no `.install`. `Removed`: no journal stood in it. `Finished`: the journal's job
-/// is done. `BadJournal(at)`: `.install/journal` is none, and nothing was changed. `OtherEntry(path)`: `.install` is no folder,
-/// the journal no file, or a folder that a part needs is there as another kind; the parts before are done then. `Limit`: the
-/// journal passes `FILE_BYTES`. `Vanished(path)`: what earlier calls showed is no longer there. `DeviceFault` comes only
-/// where the device's count of faults rose. It is run only while no install runs. Over a tree that tells and is in flight, where
-/// `.install` is a folder or absent and the journal no longer than `FILE_BYTES`, it refuses only for a device that fails or for
-/// want of memory.
+/// is done: what is staged stands at its targets, nothing is at those that are to be gone, and all else of the project is as it
+/// was, whether the install was in flight or not. `BadJournal(at)`: `.install/journal` is none, and nothing was changed.
+/// `OtherEntry(path)`: `.install` is no folder, the journal no file, or a folder that a part needs is there as another kind; the
+/// parts before are done then. `Limit`: the journal passes `FILE_BYTES`, and nothing was changed. `Vanished(path)`: what earlier
+/// calls showed is no longer there; over a tree that tells it never comes. `DeviceFault` comes only where the device's count of
+/// faults rose. Whatever it answers, run again it gives the same project. It is run only while no install runs. Over a tree
+/// that tells and is in flight, where `.install` is a folder or absent and the journal no longer than `FILE_BYTES`, it refuses
+/// only for a device that fails or for want of memory.
 pub fn finish_install<T: Tree>(
     alloc: Global,
     tree: &mut T,
@@ -161,6 +183,11 @@ pub fn finish_install<T: Tree>(
     ensures other { (path : List (List ℕ)) → result ≡ Err (faults.OtherEntry path) → OfTold (T.meaning tree.new) (IsOtherEntry project.now path) }
     ensures limit { (limit : Limits) → result ≡ Err (faults.Limit limit) → (limit ≡ limits.FileBytes (journal_path project.now))
         × (OnlyRead (T.meaning tree.old) (T.meaning tree.new) false × OfTold (T.meaning tree.old) (IsLong (journal_path project.now))) }
+    ensures never_vanished { OfTold (T.meaning tree.old) (λ t. is_vanished result ≡ false) }
+    ensures again { OfTold (T.meaning tree.old) (λ t. KeepsFinished project.now t (reading (T.meaning tree.new).disks.now)) }
+    ensures only { OnOk result (OfTold (T.meaning tree.old) (CanBeFinished project.now)) }
+    ensures stops { (path : List (List ℕ)) → result ≡ Err (faults.OtherEntry path) → OfTold (T.meaning tree.old) (λ t. (journal : Journals)
+        → HasJournal project.now t journal → (number : ℕ) × StopsAt project.now journal number t (reading (T.meaning tree.new).disks.now)) }
 {
     let work = project.child(alloc, b".install")?;
     match tree.stat(&work)? {

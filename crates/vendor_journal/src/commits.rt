@@ -1,9 +1,9 @@
 //! The commit of an install: its journal, and then its parts.
 
-ghost use Rattle.std.specs.Prelude.{◌≡◌, ℕ, List, false, None, Some, IfOk, OnOk, is_err};
+ghost use Rattle.std.specs.Prelude.{◌≡◌, ℕ, List, false, None, Some, IfOk, OnErr, OnOk, is_err};
 ghost use Rattle.std.specs.FinMap as map;
 ghost use Rattle.tree_dev.specs.Trees.{FileTree, IsTree};
-ghost use Rattle.tree_dev.specs.Device.{OfTold, next};
+ghost use Rattle.tree_dev.specs.Device.{MaySettle, OfTold, Rose, Settles, next};
 ghost use Rattle.tree_dev.specs.Disk.{reading};
 ghost use Rattle.tree_dev.specs.Changes.{changed};
 ghost use Rattle.tree_dev.specs.Steady.{EachImage, IsWhole, Steady, Through};
@@ -24,6 +24,16 @@ use crate::{CommitFault, Hold, Prepared, PreparedPart};
 use install_world::{move_part, remove_journal};
 use tree_dev::{Did, Failed, Tree};
 
+/// Makes safe what was done to the journal, so that no crash brings back what was before.
+fn make_safe<T: Tree>(tree: &mut T) -> Result<(), Failed>
+    ensures moments { MaySettle (T.meaning tree.old) (T.meaning tree.new) }
+    ensures done { OnOk result (OfTold (T.meaning tree.old) (λ _. Settles (T.meaning tree.old) (T.meaning tree.new))) }
+    ensures cause { OnErr result (Rose (T.meaning tree.old).faults (T.meaning tree.new).faults) }
+    ensures counts { (T.meaning tree.new).writes ≡ (T.meaning tree.old).writes }
+{
+    tree.barrier()
+}
+
 /// Writes the journal's text beside its place, and makes it safe. Misplaced: it has no place.
 fn write_draft<T: Tree>(tree: &mut T, prepared: &Prepared) -> Result<Did, Failed>
     ensures calls { Calls (T.meaning tree.old) (T.meaning tree.new) (is_err result) }
@@ -35,7 +45,7 @@ fn write_draft<T: Tree>(tree: &mut T, prepared: &Prepared) -> Result<Did, Failed
 {
     match tree.write(&prepared.draft, prepared.text.as_slice())? {
         Did::Done => {
-            tree.barrier()?;
+            make_safe(tree)?;
             Ok(Did::Done)
         }
         Did::Misplaced => Ok(Did::Misplaced),
@@ -61,7 +71,7 @@ fn name_draft<T: Tree>(tree: &mut T, prepared: &Prepared) -> Result<Did, Failed>
 {
     match tree.rename(&prepared.draft, &prepared.at)? {
         Did::Done => {
-            tree.barrier()?;
+            make_safe(tree)?;
             Ok(Did::Done)
         }
         Did::Misplaced => Ok(Did::Misplaced),

@@ -31,3 +31,15 @@ returns-in_ok-copy-in-Misplaced-clause-fits g c = λ t told way is stands.
 
 pub returns-in-Done-clause-left : goal.returns-in-Done-clause-left
 returns-in-Done-clause-left g c = c.in_ok-remove_journal.ensures.left c.in-Done.is
+
+pub returns-in_err-remove_journal-clause-never_vanished : goal.returns-in_err-remove_journal-clause-never_vanished
+returns-in_err-remove_journal-clause-never_vanished g c = let p = err_from_is_err_and c.from_residual.result c.from_residual.ensures.1 in rw (p.1, p.2) (λ t told file. refl)
+
+pub returns-in_err-copy-in-Misplaced-clause-never_vanished : goal.returns-in_err-copy-in-Misplaced-clause-never_vanished
+returns-in_err-copy-in-Misplaced-clause-never_vanished g c = let p = err_from_is_err_and c.from_residual-in_err-copy-in-Misplaced.result c.from_residual-in_err-copy-in-Misplaced.ensures.1 in rw (p.1, p.2) (λ t told file. refl)
+
+pub returns-in_ok-copy-in-Misplaced-clause-never_vanished : goal.returns-in_ok-copy-in-Misplaced-clause-never_vanished
+returns-in_ok-copy-in-Misplaced-clause-never_vanished g c = λ t told file.
+    let done = c.in_ok-remove_journal.ensures.placed t told file in
+    let misplaced = c.in-Misplaced.is in
+    absurd cc

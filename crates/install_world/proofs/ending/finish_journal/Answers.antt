@@ -6,14 +6,21 @@ use Rattle.install_world.proofs.PartDone.{told_still}
 use Rattle.install_world.proofs.PartFinish.{parents_then, still_through, way_reads}
 use Rattle.install_world.proofs.RemovalRules.{writes_none_on, writes_none_start}
 use Rattle.install_world.proofs.Segments.{install_segment, old_segment}
-use Rattle.std.proofs.Common.{◌≡◌, ◌∙◌, refl, subst, sym}
-use Rattle.std.specs.Prelude.{Some}
-use Rattle.std.specs.FinMap as map
+use Rattle.std.proofs.Common.{◌≡◌, ◌∙◌, ℕ, List, true, ap, refl, subst, sym}
+use Rattle.path_name.specs.Paths.{without_last}
+use Rattle.tree_dev.specs.Trees.{FileTree, entry_at, has_folder, is_folder}
 use Rattle.tree_dev.specs.Projects.{work_path}
-use Rattle.tree_dev.specs.declared.entry.Entry.TheVariants.{Folder}
-use Rattle.install_world.proofs.RoomMade.{work_not_journal, work_stands}
+use Rattle.install_world.proofs.RoomMade.{work_not_journal}
 use Rattle.install_world.specs.Finishing.{FinishesAlike}
 use Rattle.install_world.proofs.FinishSteps.{all_done_told, alike_old, alike_then, finished_without, stands_after, stands_here}
+use Rattle.install_world.specs.InFlight.{old_path}
+use Rattle.install_world.specs.Targets.{AreTargetPaths}
+use Rattle.install_world.proofs.FoldersThere.{journal_above_old, journal_is_file, old_work, stands_paths}
+use Rattle.tree_dev.specs.Disk.{reading}
+use Rattle.install_world.specs.Removals.{OnlyRemoved}
+use Rattle.install_world.proofs.FinishAgain.{keeps_alike, keeps_same, keeps_to_the_end}
+use Rattle.tree_dev.specs.Projects.{file_at}
+use Rattle.install_world.proofs.FinishStops.{made_leaves, stops_after, stops_at_once}
 use Rattle.install_world.proofs.ending.finish_journal.Goals as goal
 
 pub child-requires : goal.child-requires
@@ -156,22 +163,21 @@ returns-clause-fits g c = λ t told whole way same by is each.
 
 pub returns-clause-work : goal.returns-clause-work
 returns-clause-work g c = on_ok_weaker c.end_journal.result
-    (λ others t told whole way same by is each u after.
+    (λ others t told is stands u after.
+    let project = c.args.project.now in
+    let journal = c.args.journal.now in
     let first = g.T.Tree.meaning c.args.tree.now in
     let second = g.T.Tree.meaning c.make_folder.new.tree in
-    let on = way_reads way first t (g.met.T.Tree.tells_its_disk c.args.tree.now t told) each in
-    let there = old_there way t on c.args.project.now c.in_ok-old.old same (old_is c.args.project.now c.in_ok-work.work c.in_ok-old.old c.in_ok-work.ensures c.in_ok-old.ensures) in
-    let targets = targets_of way c.args.journal.now by c.as_slice.result.now c.as_slice.ensures in
-    let whole_second = c.make_folder.ensures.writes_none.whole whole in
-    let now = told_still first second t c.make_folder.ensures.writes_none.tells told in
-    let start = still_through way first second (c.make_folder.ensures.still t told there) c.make_folder.ensures.writes_none.faults each in
-    let here = through_ends (IsOnWay way) first second start in
     let third = g.T.Tree.meaning c.finish_parts.new.tree in
+    let now = told_still first second t c.make_folder.ensures.writes_none.tells told in
     let then = told_still second third now.0 c.finish_parts.ensures.writes_none.tells now.1 in
-    let disk = g.met.T.Tree.tells_its_disk c.finish_parts.new.tree then.0 then.1 in
-    let last = way_reads way third then.0 disk (through_ends (IsOnWay way) second third (c.finish_parts.ensures.through now.0 now.1 whole_second way same targets here)) in
-    others then.0 then.1 u after (work_path c.args.project.now) (λ e. work_not_journal c.args.project.now (e ∙ is))
-    ∙ subst (λ project. map.get then.0 (work_path project) ≡ Some Folder) same (work_stands way then.0 (g.met.T.Tree.tells_trees c.finish_parts.new.tree then.0 then.1) last))
+    let disk = g.met.T.Tree.tells_its_disk c.make_folder.new.tree now.0 now.1 in
+    let last = g.met.T.Tree.tells_its_disk c.finish_parts.new.tree then.0 then.1 in
+    let here = subst (λ (p : List (List ℕ)). is_folder (entry_at now.0 p) ≡ true) (old_is project c.in_ok-work.work c.in_ok-old.old c.in_ok-work.ensures c.in_ok-old.ensures) (c.in_ok-make_folder.ensures.there now.0 now.1) in
+    let paths = subst AreTargetPaths (sym c.as_slice.ensures) (stands_paths project journal t stands) in
+    let kept = subst (λ (w : FileTree). is_folder (entry_at w (old_path project)) ≡ true) (sym last.reads) (c.finish_parts.ensures.old now.0 now.1 paths here) in
+    others then.0 then.1 u after (work_path project) (λ e. work_not_journal project (e ∙ is))
+    ∙ old_work project then.0 (g.met.T.Tree.tells_trees c.finish_parts.new.tree then.0 then.1) kept)
     c.end_journal.ensures.others
 
 pub returns-clause-finished : goal.returns-clause-finished
@@ -212,3 +218,134 @@ returns-in_err-finish_parts-clause-cause g c = λ path is.
 
 pub returns-clause-cause : goal.returns-clause-cause
 returns-clause-cause g c = λ path is. absurd (c.end_journal.ensures.not_other path is)
+
+pub returns-in_err-work-clause-never_vanished : goal.returns-in_err-work-clause-never_vanished
+returns-in_err-work-clause-never_vanished g c = let p = err_from_is_err_and c.from_residual.result c.from_residual.ensures.1 in rw (p.1, p.2) (λ t told is stands. refl)
+
+pub returns-in_err-old-clause-never_vanished : goal.returns-in_err-old-clause-never_vanished
+returns-in_err-old-clause-never_vanished g c = let p = err_from_is_err_and c.from_residual-in_err-old.result c.from_residual-in_err-old.ensures.1 in rw (p.1, p.2) (λ t told is stands. refl)
+
+pub returns-in_err-make_folder-clause-never_vanished : goal.returns-in_err-make_folder-clause-never_vanished
+returns-in_err-make_folder-clause-never_vanished g c =
+    let p = err_from_is_err_and c.from_residual-in_err-make_folder.result c.from_residual-in_err-make_folder.ensures.1 in
+    rw (p.1, p.2) (λ t told is stands.
+    let project = c.args.project.now in
+    c.in_err-make_folder.ensures.never_vanished t told
+    (ap (λ (p : List (List ℕ)). has_folder t (without_last p)) (old_is project c.in_ok-work.work c.in_ok-old.old c.in_ok-work.ensures c.in_ok-old.ensures)
+    ∙ journal_above_old project t (g.met.T.Tree.tells_trees c.args.tree.now t told) c.args.journal.now stands))
+
+pub returns-in_err-finish_parts-clause-never_vanished : goal.returns-in_err-finish_parts-clause-never_vanished
+returns-in_err-finish_parts-clause-never_vanished g c =
+    let p = err_from_is_err_and c.from_residual-in_err-finish_parts.result c.from_residual-in_err-finish_parts.ensures.1 in
+    rw (p.1, p.2) (λ t told is stands.
+    let project = c.args.project.now in
+    let journal = c.args.journal.now in
+    let now = told_still (g.T.Tree.meaning c.args.tree.now) (g.T.Tree.meaning c.make_folder.new.tree) t c.make_folder.ensures.writes_none.tells told in
+    let here = subst (λ (p : List (List ℕ)). is_folder (entry_at now.0 p) ≡ true) (old_is project c.in_ok-work.work c.in_ok-old.old c.in_ok-work.ensures c.in_ok-old.ensures) (c.in_ok-make_folder.ensures.there now.0 now.1) in
+    let paths = subst AreTargetPaths (sym c.as_slice.ensures) (stands_paths project journal t stands) in
+    c.in_err-finish_parts.ensures.never_vanished now.0 now.1 paths here)
+
+pub returns-clause-never_vanished : goal.returns-clause-never_vanished
+returns-clause-never_vanished g c = λ t told is stands.
+    let project = c.args.project.now in
+    let journal = c.args.journal.now in
+    let first = g.T.Tree.meaning c.args.tree.now in
+    let second = g.T.Tree.meaning c.make_folder.new.tree in
+    let third = g.T.Tree.meaning c.finish_parts.new.tree in
+    let now = told_still first second t c.make_folder.ensures.writes_none.tells told in
+    let then = told_still second third now.0 c.finish_parts.ensures.writes_none.tells now.1 in
+    let disk = g.met.T.Tree.tells_its_disk c.make_folder.new.tree now.0 now.1 in
+    let last = g.met.T.Tree.tells_its_disk c.finish_parts.new.tree then.0 then.1 in
+    let made = alike_old project c.in_ok-old.old journal t first second (g.met.T.Tree.tells_its_disk c.args.tree.now t told)
+    (old_is project c.in_ok-work.work c.in_ok-old.old c.in_ok-work.ensures c.in_ok-old.ensures) c.make_folder.ensures.makes in
+    let moved = alike_then project journal t now.0 _ second disk made stands
+    (λ then_stands. c.finish_parts.ensures.alike now.0 now.1 journal (sym c.as_slice.ensures) then_stands) in
+    c.end_journal.ensures.never_vanished then.0 then.1 (journal_is_file project c.args.at.now journal then.0 is (stands_after project journal t then.0 third last stands moved))
+
+pub returns-in_err-work-clause-again : goal.returns-in_err-work-clause-again
+returns-in_err-work-clause-again g c = λ t told is stands. keeps_same c.args.project.now t _ (sym (g.met.T.Tree.tells_its_disk c.args.tree.now t told).reads)
+
+pub returns-in_err-old-clause-again : goal.returns-in_err-old-clause-again
+returns-in_err-old-clause-again g c = λ t told is stands. keeps_same c.args.project.now t _ (sym (g.met.T.Tree.tells_its_disk c.args.tree.now t told).reads)
+
+pub returns-in_err-make_folder-clause-again : goal.returns-in_err-make_folder-clause-again
+returns-in_err-make_folder-clause-again g c = λ t told is stands.
+    let project = c.args.project.now in
+    let journal = c.args.journal.now in
+    let first = g.T.Tree.meaning c.args.tree.now in
+    let second = g.T.Tree.meaning c.make_folder.new.tree in
+    let made = alike_old project c.in_ok-old.old journal t first second (g.met.T.Tree.tells_its_disk c.args.tree.now t told)
+    (old_is project c.in_ok-work.work c.in_ok-old.old c.in_ok-work.ensures c.in_ok-old.ensures) c.make_folder.ensures.makes in
+    keeps_alike project journal t (reading second.disks.now) stands made
+
+pub returns-in_err-finish_parts-clause-again : goal.returns-in_err-finish_parts-clause-again
+returns-in_err-finish_parts-clause-again g c = λ t told is stands.
+    let project = c.args.project.now in
+    let journal = c.args.journal.now in
+    let first = g.T.Tree.meaning c.args.tree.now in
+    let second = g.T.Tree.meaning c.make_folder.new.tree in
+    let made = alike_old project c.in_ok-old.old journal t first second (g.met.T.Tree.tells_its_disk c.args.tree.now t told)
+    (old_is project c.in_ok-work.work c.in_ok-old.old c.in_ok-work.ensures c.in_ok-old.ensures) c.make_folder.ensures.makes in
+    let now = told_still first second t c.make_folder.ensures.writes_none.tells told in
+    let disk = g.met.T.Tree.tells_its_disk c.make_folder.new.tree now.0 now.1 in
+    let moved = alike_then project journal t now.0 (reading (g.T.Tree.meaning c.finish_parts.new.tree).disks.now) second disk made stands
+    (λ then_stands. c.finish_parts.ensures.alike now.0 now.1 journal (sym c.as_slice.ensures) then_stands) in
+    keeps_alike project journal t (reading (g.T.Tree.meaning c.finish_parts.new.tree).disks.now) stands moved
+
+pub returns-clause-again : goal.returns-clause-again
+returns-clause-again g c = λ t told is stands.
+    let project = c.args.project.now in
+    let journal = c.args.journal.now in
+    let first = g.T.Tree.meaning c.args.tree.now in
+    let second = g.T.Tree.meaning c.make_folder.new.tree in
+    let made = alike_old project c.in_ok-old.old journal t first second (g.met.T.Tree.tells_its_disk c.args.tree.now t told)
+    (old_is project c.in_ok-work.work c.in_ok-old.old c.in_ok-work.ensures c.in_ok-old.ensures) c.make_folder.ensures.makes in
+    let now = told_still first second t c.make_folder.ensures.writes_none.tells told in
+    let disk = g.met.T.Tree.tells_its_disk c.make_folder.new.tree now.0 now.1 in
+    let moved = alike_then project journal t now.0 (reading (g.T.Tree.meaning c.finish_parts.new.tree).disks.now) second disk made stands
+    (λ then_stands. c.finish_parts.ensures.alike now.0 now.1 journal (sym c.as_slice.ensures) then_stands) in
+    let third = g.T.Tree.meaning c.finish_parts.new.tree in
+    let then = told_still second third now.0 c.finish_parts.ensures.writes_none.tells now.1 in
+    let last = g.met.T.Tree.tells_its_disk c.finish_parts.new.tree then.0 then.1 in
+    let done = all_done_told project c.as_slice.result.now journal.targets then.0 third c.as_slice.ensures last
+    (c.in_ok-finish_parts.ensures.done now.0 now.1 journal (sym c.as_slice.ensures) (stands_after project journal t now.0 second disk stands made)) in
+    keeps_to_the_end project c.args.at.now journal t then.0 (reading (g.T.Tree.meaning c.end_journal.new.tree).disks.now) is stands
+    (subst (FinishesAlike project journal t) (sym last.reads) moved) (stands_after project journal t then.0 third last stands moved)
+    (g.met.T.Tree.tells_trees c.finish_parts.new.tree then.0 then.1) done
+    (subst (λ (w : FileTree). OnlyRemoved c.args.at.now w (reading (g.T.Tree.meaning c.end_journal.new.tree).disks.now)) (sym last.reads) c.end_journal.ensures.removes)
+
+pub returns-in_err-make_folder-clause-stops : goal.returns-in_err-make_folder-clause-stops
+returns-in_err-make_folder-clause-stops g c = λ path is t told stands.
+    let project = c.args.project.now in
+    let journal = c.args.journal.now in
+    let first = g.T.Tree.meaning c.args.tree.now in
+    let second = g.T.Tree.meaning c.make_folder.new.tree in
+    let was = g.met.T.Tree.tells_its_disk c.args.tree.now t told in (
+      0,
+      stops_at_once project journal t (reading second.disks.now)
+          (λ at. made_leaves c.in_ok-old.old at (reading first.disks.now) (reading second.disks.now) c.make_folder.ensures.makes ∙ ap (λ (w : FileTree). file_at w at) (sym was.reads)),
+    )
+
+pub returns-in_err-finish_parts-clause-stops : goal.returns-in_err-finish_parts-clause-stops
+returns-in_err-finish_parts-clause-stops g c = λ path is t told stands.
+    let p = err_from_is_err_and c.from_residual-in_err-finish_parts.result c.from_residual-in_err-finish_parts.ensures.1 in
+    let given = p.1 in
+    let from = p.2 in
+    let project = c.args.project.now in
+    let journal = c.args.journal.now in
+    let first = g.T.Tree.meaning c.args.tree.now in
+    let second = g.T.Tree.meaning c.make_folder.new.tree in
+    let was = g.met.T.Tree.tells_its_disk c.args.tree.now t told in
+    let made = alike_old project c.in_ok-old.old journal t first second was (old_is project c.in_ok-work.work c.in_ok-old.old c.in_ok-work.ensures c.in_ok-old.ensures) c.make_folder.ensures.makes in
+    let now = told_still first second t c.make_folder.ensures.writes_none.tells told in
+    let disk = g.met.T.Tree.tells_its_disk c.make_folder.new.tree now.0 now.1 in
+    let found = c.in_err-finish_parts.ensures.stops path (cc) now.0 now.1 journal (sym c.as_slice.ensures) (stands_after project journal t now.0 second disk stands made) in (
+      found.0,
+      stops_after project journal found.0 t now.0 (reading (g.T.Tree.meaning c.finish_parts.new.tree).disks.now)
+          (λ at. ap (λ (w : FileTree). file_at w at) disk.reads ∙ made_leaves c.in_ok-old.old at (reading first.disks.now) (reading second.disks.now) c.make_folder.ensures.makes
+          ∙ ap (λ (w : FileTree). file_at w at) (sym was.reads))
+          (subst (FinishesAlike project journal t) (sym disk.reads) made) found.1,
+    )
+
+pub returns-clause-stops : goal.returns-clause-stops
+returns-clause-stops g c = λ path is. absurd (c.end_journal.ensures.not_other path is)

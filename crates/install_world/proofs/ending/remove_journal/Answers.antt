@@ -14,6 +14,10 @@ use Rattle.tree_dev.specs.Trees.{FileTree}
 use Rattle.install_world.proofs.LeavesGone.{file_else}
 use Rattle.install_world.proofs.PlacesFree.{told_changed}
 use Rattle.install_world.proofs.FinishSteps.{images_without}
+use Rattle.install_world.proofs.FoldersThere.{file_has_place}
+use Rattle.install_world.proofs.FinishAgain.{file_goes}
+use Rattle.install_world.proofs.PartCleared.{removed_barrier}
+use Rattle.install_world.proofs.RemovalRules.{removed_on}
 use Rattle.install_world.proofs.ending.remove_journal.Goals as goal
 
 pub returns-in_err-barrier-clause-writes_none : goal.returns-in_err-barrier-clause-writes_none
@@ -109,3 +113,29 @@ returns-in_ok-barrier-in-Done-clause-left g c = λ done t told.
     let then = told_still first third t removed.tells told in
     images_without first second third _ t c.args.journal.now (g.met.T.Tree.tells_its_disk c.args.tree.now t told) c.barrier.ensures.moments
     (c.in_ok-remove_file.ensures.done c.in-Done.is now.0 now.1) (c.in_ok-barrier-in-Done.ensures.done then.0 then.1)
+
+pub returns-in-Misplaced-clause-placed : goal.returns-in-Misplaced-clause-placed
+returns-in-Misplaced-clause-placed g c = λ t told file.
+    let done = placed_is_done t (FileRemoved c.args.journal.now) c.in_ok-remove_file.field-0
+    (c.in_ok-remove_file.ensures.answer t (barrier_told _ _ c.barrier.ensures.moments ∙ told)) (file_has_place t c.args.journal.now file) in
+    let misplaced = c.in-Misplaced.is in
+    absurd cc
+
+pub returns-in_err-barrier-clause-removes : goal.returns-in_err-barrier-clause-removes
+returns-in_err-barrier-clause-removes g c = removed_barrier c.args.journal.now _ _ c.barrier.ensures.moments
+
+pub returns-in_err-remove_file-clause-removes : goal.returns-in_err-remove_file-clause-removes
+returns-in_err-remove_file-clause-removes g c = removed_on c.args.journal.now _ _ _ (removed_barrier c.args.journal.now _ _ c.barrier.ensures.moments) (file_goes _ _ c.args.journal.now c.remove_file.ensures.moments)
+
+pub returns-in-Misplaced-clause-removes : goal.returns-in-Misplaced-clause-removes
+returns-in-Misplaced-clause-removes g c = removed_on c.args.journal.now _ _ _ (removed_barrier c.args.journal.now _ _ c.barrier.ensures.moments) (file_goes _ _ c.args.journal.now c.remove_file.ensures.moments)
+
+pub returns-in_err-barrier-in-Done-clause-removes : goal.returns-in_err-barrier-in-Done-clause-removes
+returns-in_err-barrier-in-Done-clause-removes g c =
+    removed_on c.args.journal.now _ _ _ (removed_on c.args.journal.now _ _ _ (removed_barrier c.args.journal.now _ _ c.barrier.ensures.moments) (file_goes _ _ c.args.journal.now c.remove_file.ensures.moments))
+    (removed_barrier c.args.journal.now _ _ c.barrier-in-Done.ensures.moments)
+
+pub returns-in_ok-barrier-in-Done-clause-removes : goal.returns-in_ok-barrier-in-Done-clause-removes
+returns-in_ok-barrier-in-Done-clause-removes g c =
+    removed_on c.args.journal.now _ _ _ (removed_on c.args.journal.now _ _ _ (removed_barrier c.args.journal.now _ _ c.barrier.ensures.moments) (file_goes _ _ c.args.journal.now c.remove_file.ensures.moments))
+    (removed_barrier c.args.journal.now _ _ c.barrier-in-Done.ensures.moments)

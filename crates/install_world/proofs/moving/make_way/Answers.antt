@@ -4,12 +4,12 @@ use Rattle.tree_dev.proofs.Whole.{whole_then_read}
 use Rattle.install_world.proofs.PartDone.{places_read, places_start, places_take}
 use Rattle.install_world.proofs.RemovalRules.{cause_of, writes_none_change, writes_none_read, writes_none_start}
 use Rattle.install_world.proofs.WayMoves.{read_through, take_through, told_there}
-use Rattle.std.proofs.Common.{◌≡◌, true, ap, sym, ◌∙◌, inl, inr, subst}
+use Rattle.std.proofs.Common.{◌≡◌, true, sym, ◌∙◌, inl, inr, subst}
 use Rattle.tree_dev.specs.Trees.{FileTree}
-use Rattle.tree_dev.specs.Changes.{has_place, is_root}
+use Rattle.tree_dev.specs.Changes.{has_place}
 use Rattle.tree_dev.specs.declared.change.Change.TheVariants as changes
-use Rattle.install_world.proofs.FlightLaws.{target_under}
-use Rattle.install_world.proofs.PartFinish.{way_target}
+use Rattle.install_world.specs.InFlight.{IsThere}
+use Rattle.install_world.proofs.PartCleared.{places_under}
 use Rattle.install_world.proofs.PartDone.{absent_is_none}
 use Rattle.install_world.proofs.PlacesFree.{file_by_kind, if_ok_two, placed_is_done, put_after_take, put_has_place, put_over_file, take_has_place, told_changed, told_same}
 use Rattle.install_world.proofs.WayMoves.{there_by_kind}
@@ -39,14 +39,14 @@ returns-then-free-clause-through g c = λ t told whole way number target are par
     read_through way number target c.args.places.now are part _ _ _ c.stat.ensures.only_read each
 
 pub returns-then-free-clause-fits : goal.returns-then-free-clause-fits
-returns-then-free-clause-fits g c = λ t told way number target are part on there leaf room. (
+returns-then-free-clause-fits g c = λ t told project number target are folders goes there leaf room. (
   refl,
   λ u now. subst (λ (w : FileTree). has_place w (changes.Renamed c.args.places.now.staged c.args.places.now.target) ≡ true)
       (told_same _ _ t u c.stat.ensures.only_read.told told now)
       (elim (c.is_free_for-free.ensures.free c.if-free.true) [
-        | inl absent ↦ put_has_place way number target c.args.places.now are part t on there
+        | inl absent ↦ put_has_place project number target c.args.places.now are t (folders.parent goes (subst (IsThere t) are.staged_is there)) there
             (absent_is_none t c.args.places.now.target c.in_ok-kind.kind (c.in_ok-kind.ensures.kind t told) absent)
-        | inr files ↦ put_over_file way number target c.args.places.now are part t on there (sym leaf ∙ files.1)
+        | inr files ↦ put_over_file project number target c.args.places.now are t (folders.parent goes (subst (IsThere t) are.staged_is there)) there (sym leaf ∙ files.1)
             (file_by_kind t c.args.places.now.target c.in_ok-kind.kind (c.in_ok-kind.ensures.kind t told) files.0)
       ]),
 )
@@ -69,17 +69,17 @@ returns-clause-through g c = λ t told whole way number target are part there ea
 
 pub returns-clause-fits : goal.returns-clause-fits
 returns-clause-fits g c = if_ok_two c.rename.result _ _ _
-    (λ answer is adds t told way number target are part on there leaf room.
-    let at_target = there_by_kind t c.args.places.now.target c.in_ok-kind.kind (ap is_root are.target_is ∙ target_under way.project target (way_target way t on number target part))
+    (λ answer is adds t told project number target are folders goes there leaf room.
+    let at_target = there_by_kind t c.args.places.now.target c.in_ok-kind.kind (places_under project number target c.args.places.now are)
     (c.in_ok-kind.ensures.kind t told) (c.is_free_for-free.ensures.taken c.if-free.false) in
     let none = room.free at_target (inr there) in
     let then = c.stat.ensures.only_read.told ∙ told in
     let done = placed_is_done t (changes.Renamed c.args.places.now.target c.args.places.now.kept) answer (is t then)
-    (take_has_place way number target c.args.places.now are part t on at_target none) in (
+    (take_has_place project number target c.args.places.now are t folders.old_folder at_target none) in (
       done,
       λ u now. subst (λ (w : FileTree). has_place w (changes.Renamed c.args.places.now.staged c.args.places.now.target) ≡ true)
           (told_changed _ _ t u (changes.Renamed c.args.places.now.target c.args.places.now.kept) (adds done t then).told then now)
-          (put_after_take way number target c.args.places.now are part t on at_target there none),
+          (put_after_take project number target c.args.places.now are t (folders.parent goes (subst (IsThere t) are.staged_is there)) there),
     ))
     c.rename.ensures.answer c.rename.ensures.done
 

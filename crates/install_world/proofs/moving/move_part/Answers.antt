@@ -78,15 +78,15 @@ returns-in-File-clause-done g c = IfOk-weaker c.put.result _ _
 
 pub returns-then-gone-clause-fits : goal.returns-then-gone-clause-fits
 returns-then-gone-clause-fits g c = IfOk-weaker c.take_away.result _ _
-    (λ answer placed t told way number target are part is on room.
-    placed t told way number target are part on (subst (λ mark. HasRoom mark c.args.places.now t) c.if-gone.true room))
+    (λ answer placed t told project number target are folders is room.
+    placed t told project number target are folders (subst (λ mark. HasRoom mark c.args.places.now t) c.if-gone.true room))
     c.take_away.ensures.fits
 
 pub returns-in-File-clause-fits : goal.returns-in-File-clause-fits
 returns-in-File-clause-fits g c = IfOk-weaker c.put.result _ _
-    (λ answer fits t told way number target are part is on room.
-    fits t (c.stat.ensures.only_read.told ∙ told) way number target are part on
-    (there_by_kind t c.args.places.now.staged c.in_ok-stat.field-0 (ap is_root are.staged_is ∙ staged_under way.project number)
+    (λ answer fits t told project number target are folders is room.
+    fits t (c.stat.ensures.only_read.told ∙ told) project number target are folders (is ∙ c.if-gone.false)
+    (there_by_kind t c.args.places.now.staged c.in_ok-stat.field-0 (ap is_root are.staged_is ∙ staged_under project number)
     (c.in_ok-stat.ensures.kind t told) (λ absent. let file = c.in-File.is in absurd cc))
     (sym (file_by_kind t c.args.places.now.staged c.in_ok-stat.field-0 (c.in_ok-stat.ensures.kind t told) c.in-File.is))
     (subst (λ mark. HasRoom mark c.args.places.now t) c.if-gone.false room))
@@ -117,9 +117,9 @@ returns-in_default-clause-done g c = IfOk-weaker c.put-in_default.result _ _
 
 pub returns-in_default-clause-fits : goal.returns-in_default-clause-fits
 returns-in_default-clause-fits g c = IfOk-weaker c.put-in_default.result _ _
-    (λ answer fits t told way number target are part is on room.
-    fits t (c.stat.ensures.only_read.told ∙ told) way number target are part on
-    (there_by_kind t c.args.places.now.staged c.in_ok-stat.field-0 (ap is_root are.staged_is ∙ staged_under way.project number)
+    (λ answer fits t told project number target are folders is room.
+    fits t (c.stat.ensures.only_read.told ∙ told) project number target are folders (is ∙ c.if-gone.false)
+    (there_by_kind t c.args.places.now.staged c.in_ok-stat.field-0 (ap is_root are.staged_is ∙ staged_under project number)
     (c.in_ok-stat.ensures.kind t told) c.in_default.not-Absent)
     (sym (no_file_by_kind t c.args.places.now.staged c.in_ok-stat.field-0 (c.in_ok-stat.ensures.kind t told) c.in_default.not-File))
     (subst (λ mark. HasRoom mark c.args.places.now t) c.if-gone.false room))

@@ -37,17 +37,17 @@ returns-in-Done-clause-done g c = IfOk-weaker c.rename.result _ _
     c.rename.ensures.done
 
 pub returns-in-Misplaced-clause-fits : goal.returns-in-Misplaced-clause-fits
-returns-in-Misplaced-clause-fits g c = λ t told way number target are part on there leaf room.
-    let done = (c.in_ok-make_way.ensures.fits t told way number target are part on there leaf room).0 in
+returns-in-Misplaced-clause-fits g c = λ t told project number target are folders goes there leaf room.
+    let done = (c.in_ok-make_way.ensures.fits t told project number target are folders goes there leaf room).0 in
     let misplaced = c.in-Misplaced.is in
     absurd cc
 
 pub returns-in-Done-clause-fits : goal.returns-in-Done-clause-fits
 returns-in-Done-clause-fits g c = IfOk-weaker c.rename.result _ _
-    (λ answer is t told way number target are part on there leaf room.
+    (λ answer is t told project number target are folders goes there leaf room.
     let now = told_still (g.T.Tree.meaning c.args.tree.now) (g.T.Tree.meaning c.make_way.new.tree) t c.make_way.ensures.writes_none.tells told in
     placed_is_done now.0 (changes.Renamed c.args.places.now.staged c.args.places.now.target) answer (is now.0 now.1)
-    ((c.in_ok-make_way.ensures.fits t told way number target are part on there leaf room).1 now.0 now.1))
+    ((c.in_ok-make_way.ensures.fits t told project number target are folders goes there leaf room).1 now.0 now.1))
     c.rename.ensures.answer
 
 pub returns-in_err-make_way-clause-alike : goal.returns-in_err-make_way-clause-alike

@@ -4,11 +4,9 @@ use Rattle.tree_dev.proofs.Whole.{whole_then_read}
 use Rattle.install_world.proofs.PartDone.{absent_target, places_read, places_start, places_take, taken_is_done}
 use Rattle.install_world.proofs.RemovalRules.{cause_of, writes_none_change, writes_none_read, writes_none_start}
 use Rattle.install_world.proofs.WayMoves.{gone_through, read_through}
-use Rattle.tree_dev.specs.Changes.{is_root}
 use Rattle.tree_dev.specs.declared.change.Change.TheVariants as changes
-use Rattle.std.proofs.Common.{ap, inl}
-use Rattle.install_world.proofs.FlightLaws.{target_under}
-use Rattle.install_world.proofs.PartFinish.{way_target}
+use Rattle.std.proofs.Common.{inl}
+use Rattle.install_world.proofs.PartCleared.{places_under}
 use Rattle.install_world.proofs.PlacesFree.{placed_is_done, take_has_place}
 use Rattle.install_world.proofs.WayMoves.{there_by_kind}
 use Rattle.install_world.proofs.FinishSteps.{alike_read, alike_taken, reads_then}
@@ -63,11 +61,11 @@ returns-in_default-clause-done g c = IfOk-weaker c.rename.result _ _
 
 pub returns-in_default-clause-fits : goal.returns-in_default-clause-fits
 returns-in_default-clause-fits g c = IfOk-weaker c.rename.result _ _
-    (λ answer is t told way number target are part on room.
-    let there = there_by_kind t c.args.places.now.target c.in_ok-stat.field-0 (ap is_root are.target_is ∙ target_under way.project target (way_target way t on number target part))
+    (λ answer is t told project number target are folders room.
+    let there = there_by_kind t c.args.places.now.target c.in_ok-stat.field-0 (places_under project number target c.args.places.now are)
     (c.in_ok-stat.ensures.kind t told) c.in_default.not-Absent in
     placed_is_done t (changes.Renamed c.args.places.now.target c.args.places.now.kept) answer (is t (c.stat.ensures.only_read.told ∙ told))
-    (take_has_place way number target c.args.places.now are part t on there (room.free there (inl refl))))
+    (take_has_place project number target c.args.places.now are t folders.old_folder there (room.free there (inl refl))))
     c.rename.ensures.answer
 
 pub returns-in_err-stat-clause-alike : goal.returns-in_err-stat-clause-alike

@@ -1,16 +1,20 @@
-use Rattle.std.proofs.Common.{refl, sym, subst}
+use Rattle.std.proofs.Common.{◌≡◌, ◌∙◌, ◌++◌, true, ap, refl, sym, subst}
+use Rattle.tree_dev.specs.Projects.{file_at}
+use Rattle.tree_dev.specs.Trees.{FileTree, entry_at, is_folder}
 use Rattle.std.proofs.lemmas.Result.{err_from_is_err_and}
 use Rattle.tree_dev.proofs.Stretches.{through_from}
 use Rattle.install_world.specs.Moving.{ArePlaces, IsOnWay}
 use Rattle.install_world.proofs.PartDone.{told_still}
 use Rattle.tree_dev.specs.Disk.{reading}
-use Rattle.install_world.specs.InFlight.{IsPartDone}
+use Rattle.install_world.specs.InFlight.{IsPartDone, old_path, target_path}
 use Rattle.install_world.proofs.FinishSteps.{alike_ready, alike_same, alike_then, ready_done, stands_apart, stands_number, stands_target}
-use Rattle.install_world.proofs.PartFinish.{done_then_moved, steps_then, way_reads, way_target}
+use Rattle.install_world.proofs.PartFinish.{done_then_moved, steps_then, way_folders, way_reads, way_target}
 use Rattle.install_world.proofs.RemovalRules.{writes_none_on, writes_none_start}
 use Rattle.tree_dev.proofs.Stretches.{through_ends}
 use Rattle.install_world.proofs.RoomMade.{kept_is_under}
 use Rattle.install_world.proofs.PartFinish.{parents_are}
+use Rattle.install_world.proofs.FoldersThere.{old_moved, old_prepared, old_project}
+use Rattle.install_world.proofs.FinishStops.{moves_leave, ready_leaves}
 use Rattle.install_world.proofs.parts.finish_part.Goals as goal
 
 pub returns-in_err-places-clause-writes_none : goal.returns-in_err-places-clause-writes_none
@@ -152,7 +156,102 @@ returns-in-Misplaced-clause-fits g c = λ t told whole way same part each.
     let run = c.prepare_part.ensures.through t told way c.args.number same are part each in
     let then = way_reads way second now.0 (g.met.T.Tree.tells_its_disk c.prepare_part.new.tree now.0 now.1) (through_ends (IsOnWay way) first second run) in
     let room = c.in_ok-prepare_part.ensures.room t told (kept_is_under c.args.project.now c.args.number c.args.target.now c.in_ok-places.places are) now.0 now.1 in
-    let done = c.in_ok-move_part.ensures.fits now.0 now.1 way c.args.number c.args.target.now
-    (subst (λ p. ArePlaces p c.args.number c.args.target.now c.in_ok-places.places) (sym same) are) part refl then room in
+    let done = c.in_ok-move_part.ensures.fits now.0 now.1 c.args.project.now c.args.number c.args.target.now are
+    (way_folders way c.args.project.now now.0 same then c.args.number c.args.target.now part) refl room in
     let misplaced = c.in-Misplaced.is in
     absurd cc
+
+pub returns-in_err-places-clause-never_vanished : goal.returns-in_err-places-clause-never_vanished
+returns-in_err-places-clause-never_vanished g c = let p = err_from_is_err_and c.from_residual.result c.from_residual.ensures.1 in rw (p.1, p.2) (λ t told is old. refl)
+
+pub returns-in_err-prepare_part-clause-never_vanished : goal.returns-in_err-prepare_part-clause-never_vanished
+returns-in_err-prepare_part-clause-never_vanished g c =
+    let p = err_from_is_err_and c.from_residual-in_err-prepare_part.result c.from_residual-in_err-prepare_part.ensures.1 in
+    rw (p.1, p.2) (λ t told is old.
+    c.in_err-prepare_part.ensures.never_vanished t told (old_project c.args.project.now t (g.met.T.Tree.tells_trees c.args.tree.now t told) old)
+    (kept_is_under c.args.project.now c.args.number c.args.target.now c.in_ok-places.places (c.in_ok-places.ensures is)))
+
+pub returns-in_err-move_part-clause-never_vanished : goal.returns-in_err-move_part-clause-never_vanished
+returns-in_err-move_part-clause-never_vanished g c = let p = err_from_is_err_and c.from_residual-in_err-move_part.result c.from_residual-in_err-move_part.ensures.1 in rw (p.1, p.2) (λ t told is old. refl)
+
+pub returns-in-Misplaced-clause-never_vanished : goal.returns-in-Misplaced-clause-never_vanished
+returns-in-Misplaced-clause-never_vanished g c = λ t told is old.
+    let are = c.in_ok-places.ensures is in
+    let now = told_still (g.T.Tree.meaning c.args.tree.now) (g.T.Tree.meaning c.prepare_part.new.tree) t c.prepare_part.ensures.writes_none.tells told in
+    let room = c.in_ok-prepare_part.ensures.room t told (kept_is_under c.args.project.now c.args.number c.args.target.now c.in_ok-places.places are) now.0 now.1 in
+    let folders = c.in_ok-prepare_part.ensures.folders t told (old_project c.args.project.now t (g.met.T.Tree.tells_trees c.args.tree.now t told) old) c.args.number are old now.0 now.1 in
+    let done = c.in_ok-move_part.ensures.fits now.0 now.1 c.args.project.now c.args.number c.args.target.now are folders refl room in
+    let misplaced = c.in-Misplaced.is in
+    absurd cc
+
+pub returns-in_err-places-clause-old : goal.returns-in_err-places-clause-old
+returns-in_err-places-clause-old g c = λ t told is old.
+    subst (λ (w : FileTree). is_folder (entry_at w (old_path c.args.project.now)) ≡ true) (g.met.T.Tree.tells_its_disk c.args.tree.now t told).reads old
+
+pub returns-in_err-prepare_part-clause-old : goal.returns-in_err-prepare_part-clause-old
+returns-in_err-prepare_part-clause-old g c = λ t told is old.
+    old_prepared c.args.project.now c.args.number c.args.target.now c.in_ok-places.places (c.in_ok-places.ensures is) _ _ c.prepare_part.ensures.ready
+    (subst (λ (w : FileTree). is_folder (entry_at w (old_path c.args.project.now)) ≡ true) (g.met.T.Tree.tells_its_disk c.args.tree.now t told).reads old)
+
+pub returns-in_err-move_part-clause-old : goal.returns-in_err-move_part-clause-old
+returns-in_err-move_part-clause-old g c = λ t told is old.
+    old_moved c.args.project.now c.args.number c.args.target.now c.in_ok-places.places (c.in_ok-places.ensures is) _ _ c.move_part.ensures.moves
+    (old_prepared c.args.project.now c.args.number c.args.target.now c.in_ok-places.places (c.in_ok-places.ensures is) _ _ c.prepare_part.ensures.ready
+    (subst (λ (w : FileTree). is_folder (entry_at w (old_path c.args.project.now)) ≡ true) (g.met.T.Tree.tells_its_disk c.args.tree.now t told).reads old))
+
+pub returns-in-Done-clause-old : goal.returns-in-Done-clause-old
+returns-in-Done-clause-old g c = λ t told is old.
+    old_moved c.args.project.now c.args.number c.args.target.now c.in_ok-places.places (c.in_ok-places.ensures is) _ _ c.move_part.ensures.moves
+    (old_prepared c.args.project.now c.args.number c.args.target.now c.in_ok-places.places (c.in_ok-places.ensures is) _ _ c.prepare_part.ensures.ready
+    (subst (λ (w : FileTree). is_folder (entry_at w (old_path c.args.project.now)) ≡ true) (g.met.T.Tree.tells_its_disk c.args.tree.now t told).reads old))
+
+pub returns-in-Misplaced-clause-old : goal.returns-in-Misplaced-clause-old
+returns-in-Misplaced-clause-old g c = λ t told is old.
+    old_moved c.args.project.now c.args.number c.args.target.now c.in_ok-places.places (c.in_ok-places.ensures is) _ _ c.move_part.ensures.moves
+    (old_prepared c.args.project.now c.args.number c.args.target.now c.in_ok-places.places (c.in_ok-places.ensures is) _ _ c.prepare_part.ensures.ready
+    (subst (λ (w : FileTree). is_folder (entry_at w (old_path c.args.project.now)) ≡ true) (g.met.T.Tree.tells_its_disk c.args.tree.now t told).reads old))
+
+pub returns-in_err-prepare_part-clause-stays : goal.returns-in_err-prepare_part-clause-stays
+returns-in_err-prepare_part-clause-stays g c = λ path is.
+    let p = err_from_is_err_and c.from_residual-in_err-prepare_part.result c.from_residual-in_err-prepare_part.ensures.1 in
+    let given = p.1 in
+    let from = p.2 in
+    c.in_err-prepare_part.ensures.stays path cc
+
+pub returns-in_err-places-clause-leaves : goal.returns-in_err-places-clause-leaves
+returns-in_err-places-clause-leaves g c = λ t told journal stands part j other differs there below.
+    ap (λ (w : FileTree). file_at w (target_path c.args.project.now other ++ below)) (sym (g.met.T.Tree.tells_its_disk c.args.tree.now t told).reads)
+
+pub returns-in_err-prepare_part-clause-leaves : goal.returns-in_err-prepare_part-clause-leaves
+returns-in_err-prepare_part-clause-leaves g c = λ t told journal stands part j other differs there below.
+    ready_leaves c.args.project.now c.args.number c.args.target.now other c.in_ok-places.places
+    (c.in_ok-places.ensures (stands_target c.args.project.now journal t stands c.args.number c.args.target.now part)) (stands_target c.args.project.now journal t stands j other there)
+    (stands_apart c.args.project.now journal t stands c.args.number j c.args.target.now other differs part there) below _ _ c.prepare_part.ensures.ready
+    ∙ ap (λ (w : FileTree). file_at w (target_path c.args.project.now other ++ below)) (sym (g.met.T.Tree.tells_its_disk c.args.tree.now t told).reads)
+
+pub returns-in_err-move_part-clause-leaves : goal.returns-in_err-move_part-clause-leaves
+returns-in_err-move_part-clause-leaves g c = λ t told journal stands part j other differs there below.
+    let are = c.in_ok-places.ensures (stands_target c.args.project.now journal t stands c.args.number c.args.target.now part) in
+    let is_other = stands_target c.args.project.now journal t stands j other there in
+    let apart = stands_apart c.args.project.now journal t stands c.args.number j c.args.target.now other differs part there in
+    moves_leave c.args.project.now c.args.number c.args.target.now other c.in_ok-places.places are is_other apart below _ _ c.move_part.ensures.moves
+    ∙ ready_leaves c.args.project.now c.args.number c.args.target.now other c.in_ok-places.places are is_other apart below _ _ c.prepare_part.ensures.ready
+    ∙ ap (λ (w : FileTree). file_at w (target_path c.args.project.now other ++ below)) (sym (g.met.T.Tree.tells_its_disk c.args.tree.now t told).reads)
+
+pub returns-in-Done-clause-leaves : goal.returns-in-Done-clause-leaves
+returns-in-Done-clause-leaves g c = λ t told journal stands part j other differs there below.
+    let are = c.in_ok-places.ensures (stands_target c.args.project.now journal t stands c.args.number c.args.target.now part) in
+    let is_other = stands_target c.args.project.now journal t stands j other there in
+    let apart = stands_apart c.args.project.now journal t stands c.args.number j c.args.target.now other differs part there in
+    moves_leave c.args.project.now c.args.number c.args.target.now other c.in_ok-places.places are is_other apart below _ _ c.move_part.ensures.moves
+    ∙ ready_leaves c.args.project.now c.args.number c.args.target.now other c.in_ok-places.places are is_other apart below _ _ c.prepare_part.ensures.ready
+    ∙ ap (λ (w : FileTree). file_at w (target_path c.args.project.now other ++ below)) (sym (g.met.T.Tree.tells_its_disk c.args.tree.now t told).reads)
+
+pub returns-in-Misplaced-clause-leaves : goal.returns-in-Misplaced-clause-leaves
+returns-in-Misplaced-clause-leaves g c = λ t told journal stands part j other differs there below.
+    let are = c.in_ok-places.ensures (stands_target c.args.project.now journal t stands c.args.number c.args.target.now part) in
+    let is_other = stands_target c.args.project.now journal t stands j other there in
+    let apart = stands_apart c.args.project.now journal t stands c.args.number j c.args.target.now other differs part there in
+    moves_leave c.args.project.now c.args.number c.args.target.now other c.in_ok-places.places are is_other apart below _ _ c.move_part.ensures.moves
+    ∙ ready_leaves c.args.project.now c.args.number c.args.target.now other c.in_ok-places.places are is_other apart below _ _ c.prepare_part.ensures.ready
+    ∙ ap (λ (w : FileTree). file_at w (target_path c.args.project.now other ++ below)) (sym (g.met.T.Tree.tells_its_disk c.args.tree.now t told).reads)

@@ -1,14 +1,20 @@
-use Rattle.std.proofs.Common.{refl, sym, subst, inl, inr, arith}
+use Rattle.std.proofs.Common.{◌≡◌, ◌∙◌, ◌++◌, true, ap, refl, sym, subst, inl, inr, arith}
+use Rattle.tree_dev.specs.Projects.{file_at}
+use Rattle.tree_dev.specs.Disk.{reading}
+use Rattle.install_world.specs.Finishing.{FinishesAlike, StopsAt}
+use Rattle.tree_dev.specs.Trees.{FileTree, entry_at, is_folder}
 use Rattle.std.proofs.lemmas.Bool.{cases_eq}
 use Rattle.std.proofs.lemmas.Option.{slice_get_read, slice_get_within}
 use Rattle.std.proofs.lemmas.Result.{err_from_is_err_and}
 use Rattle.tree_dev.proofs.Stretches.{through_ends, through_from}
-use Rattle.install_world.specs.InFlight.{IsPart, IsPartDone}
+use Rattle.install_world.specs.InFlight.{IsPart, IsPartDone, old_path, target_path}
 use Rattle.install_world.specs.Moving.{IsOnWay}
 use Rattle.install_world.proofs.PartDone.{told_still}
 use Rattle.install_world.proofs.FinishSteps.{alike_same, alike_then, stands_after, stands_target}
 use Rattle.install_world.proofs.PartFinish.{last_done, steps_then}
 use Rattle.install_world.proofs.RemovalRules.{writes_none_on, writes_none_start}
+use Rattle.install_world.proofs.FoldersThere.{path_of_part}
+use Rattle.install_world.proofs.FinishStops.{made_leaves, made_stays, stops_at}
 use Rattle.install_world.proofs.parts.finish_parts.Goals as goal
 
 pub targets-init : goal.targets-init
@@ -16,6 +22,9 @@ targets-init g c = record {
   writes_none = writes_none_start _;
   through = λ t told whole way same all each. through_from (IsOnWay way) _ each;
   done = λ t told journal all stands j other below there. absurd (omega arith);
+  left = λ t told journal all stands j other behind there below.
+      ap (λ (w : FileTree). file_at w (target_path c.args.project.now other ++ below)) (sym (g.met.T.Tree.tells_its_disk c.args.tree.now t told).reads);
+  old = λ t told paths stands. subst (λ (w : FileTree). is_folder (entry_at w (old_path c.args.project.now)) ≡ true) (g.met.T.Tree.tells_its_disk c.args.tree.now t told).reads stands;
   alike = λ t told journal all stands. alike_same c.args.project.now journal t _ (sym (g.met.T.Tree.tells_its_disk c.args.tree.now t told).reads);
 }
 
@@ -61,6 +70,21 @@ targets-preserved g c =
           let mine = subst (λ targets. IsPart targets c.targets.number c.index-targets-number.result) (sym all) part in
           alike_then c.args.project.now journal t now.0 _ here disk (c.targets.invariant.alike t told journal all stands) stands
           (λ then. c.finish_part.ensures.alike now.0 now.1 journal then mine);
+      left = λ t told journal all stands j other behind there below.
+          let here = g.T.Tree.meaning c.targets.tree in
+          let now = told_still (g.T.Tree.meaning c.args.tree.now) here t c.targets.invariant.writes_none.tells told in
+          let disk = g.met.T.Tree.tells_its_disk c.targets.tree now.0 now.1 in
+          let then = stands_after c.args.project.now journal t now.0 here disk stands (c.targets.invariant.alike t told journal all stands) in
+          let mine = subst (λ targets. IsPart targets c.targets.number c.index-targets-number.result) (sym all) part in
+          c.finish_part.ensures.leaves now.0 now.1 journal then mine j other (λ same. omega (arith, behind, same)) (subst (λ targets. IsPart targets j other) (sym all) there) below
+          ∙ ap (λ (w : FileTree). file_at w (target_path c.args.project.now other ++ below)) disk.reads
+          ∙ c.targets.invariant.left t told journal all stands j other (omega (arith, behind)) there below;
+      old = λ t told paths stands.
+          let here = g.T.Tree.meaning c.targets.tree in
+          let now = told_still (g.T.Tree.meaning c.args.tree.now) here t c.targets.invariant.writes_none.tells told in
+          c.finish_part.ensures.old now.0 now.1 (path_of_part c.args.targets.now c.targets.number c.index-targets-number.result paths part)
+          (subst (λ (w : FileTree). is_folder (entry_at w (old_path c.args.project.now)) ≡ true) (sym (g.met.T.Tree.tells_its_disk c.targets.tree now.0 now.1).reads)
+          (c.targets.invariant.old t told paths stands));
     }
 
 pub returns-clause-done : goal.returns-clause-done
@@ -99,3 +123,57 @@ returns-in_err-finish_part-clause-cause g c = λ path is.
 
 pub returns-clause-alike : goal.returns-clause-alike
 returns-clause-alike g c = λ t told journal all stands. c.targets.invariant.alike t told journal all stands
+
+pub returns-in_err-finish_part-clause-old : goal.returns-in_err-finish_part-clause-old
+returns-in_err-finish_part-clause-old g c = λ t told paths stands.
+    let part = slice_get_read c.args.targets.now _ c.targets.number c.index-targets-number.result refl (omega arith) c.index-targets-number.is in
+    let here = g.T.Tree.meaning c.targets.tree in
+    let now = told_still (g.T.Tree.meaning c.args.tree.now) here t c.targets.invariant.writes_none.tells told in
+    c.finish_part.ensures.old now.0 now.1 (path_of_part c.args.targets.now c.targets.number c.index-targets-number.result paths part)
+    (subst (λ (w : FileTree). is_folder (entry_at w (old_path c.args.project.now)) ≡ true) (sym (g.met.T.Tree.tells_its_disk c.targets.tree now.0 now.1).reads)
+    (c.targets.invariant.old t told paths stands))
+
+pub returns-in_err-finish_part-clause-never_vanished : goal.returns-in_err-finish_part-clause-never_vanished
+returns-in_err-finish_part-clause-never_vanished g c =
+    let p = err_from_is_err_and c.from_residual.result c.from_residual.ensures.1 in
+    rw (p.1, p.2) (λ t told paths stands.
+    let part = slice_get_read c.args.targets.now _ c.targets.number c.index-targets-number.result refl (omega arith) c.index-targets-number.is in
+    let here = g.T.Tree.meaning c.targets.tree in
+    let now = told_still (g.T.Tree.meaning c.args.tree.now) here t c.targets.invariant.writes_none.tells told in
+    c.in_err-finish_part.ensures.never_vanished now.0 now.1 (path_of_part c.args.targets.now c.targets.number c.index-targets-number.result paths part)
+    (subst (λ (w : FileTree). is_folder (entry_at w (old_path c.args.project.now)) ≡ true) (sym (g.met.T.Tree.tells_its_disk c.targets.tree now.0 now.1).reads)
+    (c.targets.invariant.old t told paths stands)))
+
+pub returns-clause-old : goal.returns-clause-old
+returns-clause-old g c = λ t told paths stands. c.targets.invariant.old t told paths stands
+
+pub returns-in_err-finish_part-clause-stops : goal.returns-in_err-finish_part-clause-stops
+returns-in_err-finish_part-clause-stops g c = λ path is t told journal all stands.
+    let p = err_from_is_err_and c.from_residual.result c.from_residual.ensures.1 in
+    let given = p.1 in
+    let from = p.2 in
+    let part = slice_get_read c.args.targets.now _ c.targets.number c.index-targets-number.result refl (omega arith) c.index-targets-number.is in
+    let project = c.args.project.now in
+    let here = g.T.Tree.meaning c.targets.tree in
+    let last = g.T.Tree.meaning c.finish_part.new.tree in
+    let now = told_still (g.T.Tree.meaning c.args.tree.now) here t c.targets.invariant.writes_none.tells told in
+    let then = told_still here last now.0 c.finish_part.ensures.writes_none.tells now.1 in
+    let disk = g.met.T.Tree.tells_its_disk c.targets.tree now.0 now.1 in
+    let end = g.met.T.Tree.tells_its_disk c.finish_part.new.tree then.0 then.1 in
+    let before = c.targets.invariant.alike t told journal all stands in
+    let standing = stands_after project journal t now.0 here disk stands before in
+    let mine = subst (λ targets. IsPart targets c.targets.number c.index-targets-number.result) (sym all) part in
+    let after = alike_then project journal t now.0 (reading last.disks.now) here disk before stands (λ s. c.finish_part.ensures.alike now.0 now.1 journal s mine) in
+    let stopped = c.in_err-finish_part.ensures.stays path cc in (
+      c.targets.number,
+      subst (λ (w : FileTree). StopsAt project journal c.targets.number t w) end.reads
+          (stops_at project journal t then.0 (stands_after project journal t then.0 last end stands after) (g.met.T.Tree.tells_trees c.finish_part.new.tree then.0 then.1)
+          (subst (FinishesAlike project journal t) (sym end.reads) after) c.targets.number
+          (λ j other below there. subst (IsPartDone other.gone project j other) (sym end.reads)
+          (made_stays project journal c.targets.number j c.index-targets-number.result other now.0 standing mine there (λ same. omega (arith, below, same)) _ _ stopped disk.reads
+          (c.targets.invariant.done t told journal all stands j other below (subst (λ targets. IsPart targets j other) all there))))
+          (λ j other behind there below.
+          ap (λ (w : FileTree). file_at w (target_path project other ++ below)) end.reads
+          ∙ made_leaves (project ++ c.index-targets-number.result.path) (target_path project other ++ below) _ _ stopped
+          ∙ c.targets.invariant.left t told journal all stands j other behind (subst (λ targets. IsPart targets j other) all there) below)),
+    )

@@ -1,11 +1,14 @@
-use Rattle.std.proofs.Common.{◌≡◌, ℕ, ◌<◌, false}
+use Rattle.std.proofs.Common.{◌≡◌, ℕ, ◌<◌, ◌≤◌, ◌++◌, List, true, false}
+use Rattle.tree_dev.specs.Projects.{file_at}
+use Rattle.tree_dev.specs.Trees.{entry_at, is_folder}
 use Rattle.tree_dev.specs.Device.{OfTold}
 use Rattle.tree_dev.specs.Disk.{reading}
 use Rattle.tree_dev.specs.Steady.{EachImage, IsWhole, Through}
 use Rattle.install_world.specs.Finishing.{FinishesAlike, Stands}
-use Rattle.install_world.specs.InFlight.{IsPart, IsPartDone}
+use Rattle.install_world.specs.InFlight.{IsPart, IsPartDone, old_path, target_path}
 use Rattle.install_world.specs.Moving.{IsOnWay, Way}
 use Rattle.install_world.specs.Removals.{WritesNone}
+use Rattle.install_world.specs.Targets.{AreTargetPaths}
 use Rattle.install_world.specs.declared.journal.Journal.{Journal}
 use Rattle.install_world.specs.declared.target.Target.{Target}
 use Rattle.install_world.proofs.parts.finish_parts.Given as goal
@@ -22,4 +25,9 @@ invariant-targets g l =
           → (j : ℕ) (other : Target) → j < l.number → IsPart l.fn.targets j other → IsPartDone other.gone l.fn.project j other (reading now.disks.now));
       alike : OfTold before (λ t. (journal : Journal) → journal.targets ≡ l.fn.targets → Stands l.fn.project journal t
           → FinishesAlike l.fn.project journal t (reading now.disks.now));
+      old : OfTold before (λ t. AreTargetPaths l.fn.targets → is_folder (entry_at t (old_path l.fn.project)) ≡ true
+          → is_folder (entry_at (reading now.disks.now) (old_path l.fn.project)) ≡ true);
+      left : OfTold before (λ t. (journal : Journal) → journal.targets ≡ l.fn.targets → Stands l.fn.project journal t
+          → (j : ℕ) (other : Target) → l.number ≤ j → IsPart l.fn.targets j other → (below : List (List ℕ))
+          → file_at (reading now.disks.now) (target_path l.fn.project other ++ below) ≡ file_at t (target_path l.fn.project other ++ below));
     }

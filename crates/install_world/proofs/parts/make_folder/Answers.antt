@@ -3,6 +3,8 @@ use Rattle.install_world.proofs.PartFinish.{shows_folder}
 use Rattle.install_world.proofs.RemovalRules.{writes_none_on, writes_none_read, writes_none_start}
 use Rattle.std.proofs.Common.{refl, sym, ◌∙◌}
 use Rattle.install_world.proofs.FinishSteps.{leaf_shown, made_on, made_read}
+use Rattle.install_world.proofs.FoldersThere.{folder_shown}
+use Rattle.install_world.proofs.PartDone.{absent_is_none}
 use Rattle.install_world.proofs.parts.make_folder.Goals as goal
 
 pub returns-in_err-stat-clause-writes_none : goal.returns-in_err-stat-clause-writes_none
@@ -79,3 +81,19 @@ returns-in_ok-copy-in_default-clause-cause g c = λ path is t told.
     let leaf = leaf_shown t c.args.at.now c.in_ok-stat.field-0 (c.in_ok-stat.ensures.kind t (sym c.stat.ensures.only_read.told ∙ told)) c.in_default.not-Folder c.in_default.not-Absent in
     let copied = c.in_ok-copy-in_default.ensures in
     cc
+
+pub returns-in_err-stat-clause-never_vanished : goal.returns-in_err-stat-clause-never_vanished
+returns-in_err-stat-clause-never_vanished g c = let p = err_from_is_err_and c.from_residual.result c.from_residual.ensures.1 in rw (p.1, p.2) (λ t told above. refl)
+
+pub returns-in-Folder-clause-there : goal.returns-in-Folder-clause-there
+returns-in-Folder-clause-there g c = λ t told.
+    folder_shown t c.args.at.now c.in_ok-stat.field-0 (c.in_ok-stat.ensures.kind t (sym c.stat.ensures.only_read.told ∙ told)) c.in-Folder.is
+
+pub returns-in-Absent-clause-never_vanished : goal.returns-in-Absent-clause-never_vanished
+returns-in-Absent-clause-never_vanished g c = λ t told above.
+    c.make_missing.ensures.never_vanished t (c.stat.ensures.only_read.told ∙ told)
+    (absent_is_none t c.args.at.now c.in_ok-stat.field-0 (c.in_ok-stat.ensures.kind t told) c.in-Absent.is) above
+
+pub returns-in_err-copy-in_default-clause-never_vanished : goal.returns-in_err-copy-in_default-clause-never_vanished
+returns-in_err-copy-in_default-clause-never_vanished g c =
+    let p = err_from_is_err_and c.from_residual-in_err-copy-in_default.result c.from_residual-in_err-copy-in_default.ensures.1 in rw (p.1, p.2) (λ t told above. refl)

@@ -1,4 +1,9 @@
-use Rattle.std.proofs.Common.{◌≡◌, ◌∙◌, ◌+◌, ◌++◌, ◌∷◌, [], ℕ, List, true, ap, sym, subst, take, append-nil}
+use Rattle.std.proofs.Common.{◌≡◌, ◌∙◌, ◌+◌, ◌++◌, ◌∷◌, [], ℕ, List, true, ap, refl, sym, subst, take, arith, append-nil}
+use Rattle.std.proofs.lemmas.List.{take_all}
+use Rattle.path_name.specs.Paths.{without_last}
+use Rattle.tree_dev.specs.Trees.{FileTree, entry_at, has_folder, is_folder}
+use Rattle.tree_dev.proofs.Snoc.{without_last-snoc}
+use Rattle.install_world.proofs.PartDone.{told_still}
 use Rattle.std.specs.Prelude.{IsTrue}
 use Rattle.std.specs.List.{list_all}
 use Rattle.std.proofs.lemmas.Result.{err_from_is_err_and}
@@ -53,6 +58,10 @@ loop-name-init g c = record {
   writes_none = writes_none_start _;
   makes = made_itself _ _;
   at = c.in_ok-at.ensures ∙ sym (append-nil c.args.project.now);
+  there = λ t told folder u now.
+      let same : t ≡ u = cc in
+      subst (λ (at : List (List ℕ)). is_folder (entry_at u at) ≡ true) (sym c.in_ok-at.ensures)
+      (subst (λ (w : FileTree). is_folder (entry_at w c.args.project.now) ≡ true) same folder);
 }
 
 pub loop-name-preserved : goal.loop-name-preserved
@@ -63,6 +72,7 @@ loop-name-preserved g c =
       makes = made_on (c.args.project.now ++ c.args.path.now) _ _ _ c.loop-name.invariant.makes
           (made_wider (c.args.project.now ++ c.args.path.now) c.enter.new.self _ _ (within_is g entered) c.make_folder.ensures.makes);
       at = at_is g entered;
+      there = λ t told folder u now. c.in_ok-make_folder.ensures.there u now;
     }
 
 pub returns-in_err-make_folder-clause-writes_none : goal.returns-in_err-make_folder-clause-writes_none
@@ -81,3 +91,28 @@ returns-in_err-make_folder-clause-cause g c = λ path is.
     let given = p.1 in
     let from = p.2 in
     c.in_err-make_folder.ensures.cause path cc
+
+pub returns-in_err-names-clause-never_vanished : goal.returns-in_err-names-clause-never_vanished
+returns-in_err-names-clause-never_vanished g c = let p = err_from_is_err_and c.from_residual.result c.from_residual.ensures.1 in rw (p.1, p.2) (λ t told folder. refl)
+
+pub returns-in_err-at-clause-never_vanished : goal.returns-in_err-at-clause-never_vanished
+returns-in_err-at-clause-never_vanished g c = let p = err_from_is_err_and c.from_residual-in_err-at.result c.from_residual-in_err-at.ensures.1 in rw (p.1, p.2) (λ t told folder. refl)
+
+pub returns-in_err-enter-clause-never_vanished : goal.returns-in_err-enter-clause-never_vanished
+returns-in_err-enter-clause-never_vanished g c = let p = err_from_is_err_and c.from_residual-in_err-enter.result c.from_residual-in_err-enter.ensures.1 in rw (p.1, p.2) (λ t told folder. refl)
+
+pub returns-in_err-make_folder-clause-never_vanished : goal.returns-in_err-make_folder-clause-never_vanished
+returns-in_err-make_folder-clause-never_vanished g c =
+    let p = err_from_is_err_and c.from_residual-in_err-make_folder.result c.from_residual-in_err-make_folder.ensures.1 in
+    rw (p.1, p.2) (λ t told folder.
+    let here = told_still (g.T.Tree.meaning c.args.tree.now) (g.T.Tree.meaning c.loop-name.tree) t c.loop-name.invariant.writes_none.tells told in
+    c.in_err-make_folder.ensures.never_vanished here.0 here.1
+    (ap (λ (at : List (List ℕ)). has_folder here.0 (without_last at)) c.in_ok-enter.ensures.entered ∙ ap (has_folder here.0) (without_last-snoc c.loop-name.at c.as_slice.result.now)
+    ∙ c.loop-name.invariant.there t told folder here.0 here.1))
+
+pub returns-clause-there : goal.returns-clause-there
+returns-clause-there g c = λ t told folder u now.
+    subst (λ (at : List (List ℕ)). is_folder (entry_at u at) ≡ true)
+    (c.loop-name.invariant.at ∙ ap (λ (ns : List (List ℕ)). c.args.project.now ++ ns)
+    (take_all c.loop-name.name-index c.as_slice-name-items.result.now (omega (arith, c.loop-name-test.false)) ∙ c.as_slice-name-items.ensures.value ∙ c.in_ok-names.ensures))
+    (c.loop-name.invariant.there t told folder u now)

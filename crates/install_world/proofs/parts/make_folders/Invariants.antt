@@ -1,4 +1,6 @@
-use Rattle.std.proofs.Common.{◌≡◌, ◌++◌, false, take}
+use Rattle.std.proofs.Common.{◌≡◌, ◌++◌, true, false, take}
+use Rattle.tree_dev.specs.Trees.{entry_at, is_folder}
+use Rattle.tree_dev.specs.Device.{OfTold}
 use Rattle.tree_dev.specs.Disk.{reading}
 use Rattle.install_world.specs.Finishing.{OnlyMade}
 use Rattle.install_world.specs.Removals.{WritesNone}
@@ -12,4 +14,5 @@ invariant-loop-name g l =
       writes_none : WritesNone (meaning l.fn.tree) (meaning l.tree) false;
       makes : OnlyMade (l.fn.project ++ l.fn.path) (reading (meaning l.fn.tree).disks.now) (reading (meaning l.tree).disks.now);
       at : l.at ≡ l.fn.project ++ take l.name-index l.name-items;
+      there : OfTold (meaning l.fn.tree) (λ t. is_folder (entry_at t l.fn.project) ≡ true → OfTold (meaning l.tree) (λ u. is_folder (entry_at u l.at) ≡ true));
     }

@@ -1,5 +1,5 @@
 use Rattle.std.proofs.Common.{◌∙◌, refl}
-use Rattle.std.proofs.lemmas.Result.{err_from_is_err_and}
+use Rattle.std.proofs.lemmas.Result.{err_from_is_err_and, on_ok_weaker}
 use Rattle.install_world.proofs.FinishSteps.{made_on, made_read}
 use Rattle.install_world.proofs.RemovalRules.{writes_none_on, writes_none_read, writes_none_start}
 use Rattle.install_world.proofs.parts.make_needed.Goals as goal
@@ -40,3 +40,17 @@ returns-clause-makes g c = made_read _ _ _ _ c.is_to_be_put.ensures.only_read
 
 pub returns-clause-still : goal.returns-clause-still
 returns-clause-still g c = λ t told there. c.is_to_be_put.ensures.only_read.disks
+
+pub returns-in_err-needed-clause-never_vanished : goal.returns-in_err-needed-clause-never_vanished
+returns-in_err-needed-clause-never_vanished g c = let p = err_from_is_err_and c.from_residual.result c.from_residual.ensures.1 in rw (p.1, p.2) (λ t told folder. refl)
+
+pub returns-then-needed-clause-never_vanished : goal.returns-then-needed-clause-never_vanished
+returns-then-needed-clause-never_vanished g c = λ t told folder. c.make_parents.ensures.never_vanished t (c.is_to_be_put.ensures.only_read.told ∙ told) folder
+
+pub returns-then-needed-clause-there : goal.returns-then-needed-clause-there
+returns-then-needed-clause-there g c = on_ok_weaker c.make_parents.result
+    (λ there t told folder some goes staged u now. there t (c.is_to_be_put.ensures.only_read.told ∙ told) folder some u now)
+    c.make_parents.ensures.there
+
+pub returns-clause-there : goal.returns-clause-there
+returns-clause-there g c = λ t told folder some goes staged u now. absurd (c.in_ok-needed.ensures.needed c.if-needed.false t told goes staged)

@@ -1,8 +1,10 @@
-use Rattle.std.proofs.lemmas.Result.{err_from_is_err_and}
+use Rattle.std.proofs.lemmas.Result.{err_from_is_err_and, on_ok_weaker}
 use Rattle.install_world.proofs.PartFinish.{shows_folder}
 use Rattle.install_world.proofs.RemovalRules.{writes_none_on, writes_none_read, writes_none_start}
-use Rattle.std.proofs.Common.{refl}
+use Rattle.std.proofs.Common.{◌≡◌, ◌∙◌, ℕ, List, true, refl, subst, sym}
+use Rattle.tree_dev.specs.Trees.{entry_at, is_folder}
 use Rattle.install_world.proofs.FinishSteps.{made_on, made_read}
+use Rattle.install_world.proofs.FoldersThere.{folder_shown}
 use Rattle.install_world.proofs.parts.make_up_to.Goals as goal
 
 pub returns-in_err-stat-clause-writes_none : goal.returns-in_err-stat-clause-writes_none
@@ -42,3 +44,19 @@ returns-in-Folder-clause-makes g c = made_read _ _ _ _ c.stat.ensures.only_read
 
 pub returns-in_default-clause-makes : goal.returns-in_default-clause-makes
 returns-in_default-clause-makes g c = made_on _ _ _ _ (made_read _ _ _ _ c.stat.ensures.only_read) c.make_above.ensures.makes
+
+pub returns-in_err-stat-clause-never_vanished : goal.returns-in_err-stat-clause-never_vanished
+returns-in_err-stat-clause-never_vanished g c = let p = err_from_is_err_and c.from_residual.result c.from_residual.ensures.1 in rw (p.1, p.2) (λ t told folder. refl)
+
+pub returns-in-Folder-clause-there : goal.returns-in-Folder-clause-there
+returns-in-Folder-clause-there g c = λ t told folder above is same u now.
+    folder_shown u c.args.parent.now c.in_ok-stat.field-0 (c.in_ok-stat.ensures.kind u (sym c.stat.ensures.only_read.told ∙ now)) c.in-Folder.is
+
+pub returns-in_default-clause-never_vanished : goal.returns-in_default-clause-never_vanished
+returns-in_default-clause-never_vanished g c = λ t told folder. c.make_above.ensures.never_vanished t (c.stat.ensures.only_read.told ∙ told) folder
+
+pub returns-in_default-clause-there : goal.returns-in_default-clause-there
+returns-in_default-clause-there g c = on_ok_weaker c.make_above.result
+    (λ there t told folder above is same u now.
+    subst (λ (p : List (List ℕ)). is_folder (entry_at u p) ≡ true) (sym same) (there t (c.stat.ensures.only_read.told ∙ told) folder above is u now))
+    c.make_above.ensures.there

@@ -1,10 +1,15 @@
-use Rattle.std.proofs.Common.{refl, sym, subst}
+use Rattle.std.proofs.Common.{◌++◌, refl, sym, subst}
+use Rattle.tree_dev.specs.Trees.{FileTree}
+use Rattle.tree_dev.specs.Disk.{reading}
+use Rattle.install_world.specs.Finishing.{OnlyMade}
+use Rattle.install_world.specs.Removals.{OnlyRemoved}
 use Rattle.std.proofs.lemmas.Result.{err_from_is_err_and}
 use Rattle.install_world.specs.Moving.{ArePlaces}
 use Rattle.install_world.proofs.PartFinish.{parents_are, parents_then, still_through, way_reads}
 use Rattle.install_world.proofs.RemovalRules.{removed_itself, writes_none_on}
 use Rattle.std.proofs.lemmas.Result.{on_ok_weaker}
 use Rattle.install_world.proofs.PartDone.{told_still}
+use Rattle.install_world.proofs.FoldersThere.{fit_is_there, folders_ready, target_is_some}
 use Rattle.install_world.proofs.parts.prepare_part.Goals as goal
 
 pub returns-in_err-make_needed-clause-writes_none : goal.returns-in_err-make_needed-clause-writes_none
@@ -60,3 +65,34 @@ returns-clause-ready g c = record { between = _; made = c.make_needed.ensures.ma
 
 pub returns-clause-cause : goal.returns-clause-cause
 returns-clause-cause g c = λ path is. absurd (c.clear_kept.ensures.not_other path is)
+
+pub returns-in_err-make_needed-clause-never_vanished : goal.returns-in_err-make_needed-clause-never_vanished
+returns-in_err-make_needed-clause-never_vanished g c =
+    let p = err_from_is_err_and c.from_residual.result c.from_residual.ensures.1 in rw (p.1, p.2) (λ t told folder under. c.in_err-make_needed.ensures.never_vanished t told folder)
+
+pub returns-clause-never_vanished : goal.returns-clause-never_vanished
+returns-clause-never_vanished g c = λ t told folder under.
+    let mid = told_still (g.T.Tree.meaning c.args.tree.now) (g.T.Tree.meaning c.make_needed.new.tree) t c.in_ok-make_needed.ensures.writes_none.tells told in
+    fit_is_there _ c.clear_kept.result (c.clear_kept.ensures.fits mid.0 mid.1 under)
+
+pub returns-clause-folders : goal.returns-clause-folders
+returns-clause-folders g c = on_ok_weaker c.clear_kept.result
+    (λ room t told folder number are old u now.
+    let mid = told_still (g.T.Tree.meaning c.args.tree.now) (g.T.Tree.meaning c.make_needed.new.tree) t c.in_ok-make_needed.ensures.writes_none.tells told in
+    let at = c.args.project.now ++ c.args.target.now.path in
+    let was = (g.met.T.Tree.tells_its_disk c.args.tree.now t told).reads in
+    let then = (g.met.T.Tree.tells_its_disk c.make_needed.new.tree mid.0 mid.1).reads in
+    let last = (g.met.T.Tree.tells_its_disk c.clear_kept.new.tree u now).reads in
+    folders_ready c.args.project.now number c.args.target.now c.args.places.now are t mid.0 u
+    (subst (λ (w : FileTree). OnlyMade at t w) (sym then) (subst (λ (w : FileTree). OnlyMade at w (reading (g.T.Tree.meaning c.make_needed.new.tree).disks.now)) (sym was) c.make_needed.ensures.makes))
+    (subst (λ (w : FileTree). OnlyRemoved c.args.places.now.kept mid.0 w) (sym last)
+    (subst (λ (w : FileTree). OnlyRemoved c.args.places.now.kept w (reading (g.T.Tree.meaning c.clear_kept.new.tree).disks.now)) (sym then) c.clear_kept.ensures.removes))
+    old
+    (λ goes staged. c.in_ok-make_needed.ensures.there t told folder (target_is_some c.args.target.now.path are.is_target) goes staged mid.0 mid.1))
+    c.clear_kept.ensures.room
+
+pub returns-in_err-make_needed-clause-stays : goal.returns-in_err-make_needed-clause-stays
+returns-in_err-make_needed-clause-stays g c = λ path is. c.make_needed.ensures.makes
+
+pub returns-clause-stays : goal.returns-clause-stays
+returns-clause-stays g c = λ path is. absurd (c.clear_kept.ensures.not_other path is)

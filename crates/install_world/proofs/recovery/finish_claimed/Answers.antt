@@ -1,6 +1,6 @@
 use Rattle.std.proofs.Common.{◌≡◌, ◌<◌, ◌^◌, length, ap, ◌∙◌, sym, subst, None, Some}
 use Rattle.std.specs.FinMap as map
-use Rattle.tree_dev.specs.declared.entry.Entry.TheVariants.{File}
+use Rattle.tree_dev.specs.declared.entry.Entry.TheVariants.{File, Folder}
 use Rattle.std.proofs.lemmas.Result.{IfOk-weaker, err_from_is_err_and, on_ok_weaker}
 use Rattle.tree_dev.specs.Device.{only_read_on}
 use Rattle.tree_dev.proofs.Stretches.{through_from, through_on}
@@ -21,6 +21,14 @@ use Rattle.install_world.specs.Recovery.{IsLong, IsReadable}
 use Rattle.install_world.proofs.RecoveryCauses.{other_entry}
 use Rattle.install_world.specs.declared.recovery_fault.Recovered.{Recovered}
 use Rattle.install_world.proofs.RecoveryFits.{journal_readable, journal_under, refused_again}
+use Rattle.install_world.proofs.FoldersThere.{still_there}
+use Rattle.install_world.proofs.FinishAgain.{keeps_read, keeps_same}
+use Rattle.install_world.specs.JournalText.{Says}
+use Rattle.install_world.proofs.RecoveryCauses.{with_text, without_text}
+use Rattle.tree_dev.specs.Trees.{FileTree}
+use Rattle.tree_dev.specs.Projects.{file_at, journal_path}
+use Rattle.install_world.proofs.FinishSteps.{reads_then}
+use Rattle.install_world.proofs.FinishStops.{stops_at_once}
 use Rattle.install_world.proofs.recovery.finish_claimed.Goals as goal
 
 pub child-requires : goal.child-requires
@@ -190,3 +198,83 @@ returns-clause-other g c = λ path is t told is_work. record { kind = inl (c.fin
 
 pub returns-clause-limit : goal.returns-clause-limit
 returns-clause-limit g c = λ limit is. absurd (c.finish_text.ensures.not_limit limit is)
+
+pub returns-in_err-at-clause-never_vanished : goal.returns-in_err-at-clause-never_vanished
+returns-in_err-at-clause-never_vanished g c = let p = err_from_is_err_and c.from_residual.result c.from_residual.ensures.1 in rw (p.1, p.2) (λ t told is_work stands. refl)
+
+pub returns-in_err-read_text-clause-never_vanished : goal.returns-in_err-read_text-clause-never_vanished
+returns-in_err-read_text-clause-never_vanished g c = let p = err_from_is_err_and c.from_residual-in_err-read_text.result c.from_residual-in_err-read_text.ensures.1 in rw (p.1, p.2) (λ t told is_work stands. still_there (Option (List ℕ)) Recovered c.in_err-read_text.field-0.0 c.in_err-read_text.ensures.never_vanished)
+
+pub returns-in-None-clause-never_vanished : goal.returns-in-None-clause-never_vanished
+returns-in-None-clause-never_vanished g c = λ t told is_work stands. c.take_install_away.ensures.never_vanished t (c.read_text.ensures.only_read.told ∙ told) stands
+
+pub returns-clause-never_vanished : goal.returns-clause-never_vanished
+returns-clause-never_vanished g c = λ t told is_work stands.
+    let is_at = at_is c.args.project.now c.args.work.now c.in_ok-at.at is_work c.in_ok-at.ensures in
+    let file : (map.get t c.in_ok-at.at ≡ Some (File c.in-Some.text)) × (length c.in-Some.text < 2 ^ 64) = rw c.in-Some.is at (c.in_ok-read_text.ensures.text t told) in
+    c.finish_text.ensures.never_vanished t (c.read_text.ensures.only_read.told ∙ told) is_work is_at
+    (subst (λ bytes. map.get t c.in_ok-at.at ≡ Some (File bytes)) (sym c.as_slice.ensures) file.0)
+    (subst (λ bytes. length bytes < 2 ^ 64) (sym c.as_slice.ensures) file.1)
+
+pub returns-in_err-at-clause-again : goal.returns-in_err-at-clause-again
+returns-in_err-at-clause-again g c = λ t told is_work. keeps_same c.args.project.now t _ (sym (g.met.T.Tree.tells_its_disk c.args.tree.now t told).reads)
+
+pub returns-in_err-read_text-clause-again : goal.returns-in_err-read_text-clause-again
+returns-in_err-read_text-clause-again g c = λ t told is_work.
+    keeps_read c.args.project.now _ _ t _ (g.met.T.Tree.tells_its_disk c.args.tree.now t told) c.read_text.ensures.only_read
+
+pub returns-in-None-clause-again : goal.returns-in-None-clause-again
+returns-in-None-clause-again g c = λ t told is_work.
+    let is_at = at_is c.args.project.now c.args.work.now c.in_ok-at.at is_work c.in_ok-at.ensures in
+    let none : map.get t c.in_ok-at.at ≡ None = rw c.in-None.is at (c.in_ok-read_text.ensures.text t told) in
+    c.take_install_away.ensures.again t (c.read_text.ensures.only_read.told ∙ told) c.args.project.now is_work
+    (record { absent = subst (λ path. map.get t path ≡ None) is_at none })
+
+pub returns-clause-again : goal.returns-clause-again
+returns-clause-again g c = λ t told is_work.
+    let is_at = at_is c.args.project.now c.args.work.now c.in_ok-at.at is_work c.in_ok-at.ensures in
+    let file : (map.get t c.in_ok-at.at ≡ Some (File c.in-Some.text)) × (length c.in-Some.text < 2 ^ 64) = rw c.in-Some.is at (c.in_ok-read_text.ensures.text t told) in
+    c.finish_text.ensures.again t (c.read_text.ensures.only_read.told ∙ told) is_work is_at
+    (subst (λ bytes. map.get t c.in_ok-at.at ≡ Some (File bytes)) (sym c.as_slice.ensures) file.0)
+    (subst (λ bytes. length bytes < 2 ^ 64) (sym c.as_slice.ensures) file.1)
+
+pub returns-in-None-clause-only : goal.returns-in-None-clause-only
+returns-in-None-clause-only g c = on_ok_weaker c.take_install_away.result
+    (λ left t told is_work stands.
+    let is_at = at_is c.args.project.now c.args.work.now c.in_ok-at.at is_work c.in_ok-at.ensures in
+    let none : map.get t c.in_ok-at.at ≡ None = rw c.in-None.is at (c.in_ok-read_text.ensures.text t told) in
+    without_text c.args.project.now t (subst (λ path. map.get t path ≡ Some Folder) is_work stands) (subst (λ path. map.get t path ≡ None) is_at none))
+    c.take_install_away.ensures.left
+
+pub returns-clause-only : goal.returns-clause-only
+returns-clause-only g c = on_ok_weaker c.finish_text.result
+    (λ says t told is_work stands.
+    let is_at = at_is c.args.project.now c.args.work.now c.in_ok-at.at is_work c.in_ok-at.ensures in
+    let file : (map.get t c.in_ok-at.at ≡ Some (File c.in-Some.text)) × (length c.in-Some.text < 2 ^ 64) = rw c.in-Some.is at (c.in_ok-read_text.ensures.text t told) in
+    with_text c.args.project.now t c.in-Some.text (subst (λ path. map.get t path ≡ Some Folder) is_work stands)
+    (subst (λ path. map.get t path ≡ Some (File c.in-Some.text)) is_at file.0)
+    (subst (λ path. IsReadable path t) is_at (c.in_ok-read_text.ensures.readable t told (ap is_root is_at ∙ journal_under c.args.project.now)))
+    says.0 (subst (λ bytes. Says bytes says.0) c.as_slice.ensures says.1))
+    c.finish_text.ensures.says
+
+pub returns-in_err-read_text-clause-stops : goal.returns-in_err-read_text-clause-stops
+returns-in_err-read_text-clause-stops g c = λ path is t told journal is_work has. (
+  0,
+  stops_at_once c.args.project.now journal t _ (λ at. ap (λ (w : FileTree). file_at w at)
+      (reads_then _ _ t _ (g.met.T.Tree.tells_its_disk c.args.tree.now t told) c.read_text.ensures.only_read)),
+)
+
+pub returns-in-None-clause-stops : goal.returns-in-None-clause-stops
+returns-in-None-clause-stops g c = λ path is. absurd (c.take_install_away.ensures.not_other path is)
+
+pub returns-clause-stops : goal.returns-clause-stops
+returns-clause-stops g c = λ path is t told journal is_work has.
+    let is_at = at_is c.args.project.now c.args.work.now c.in_ok-at.at is_work c.in_ok-at.ensures in
+    let file : (map.get t c.in_ok-at.at ≡ Some (File c.in-Some.text)) × (length c.in-Some.text < 2 ^ 64) = rw c.in-Some.is at (c.in_ok-read_text.ensures.text t told) in
+    let here : map.get t (journal_path c.args.project.now) ≡ Some (File c.in-Some.text) = subst (λ path. map.get t path ≡ Some (File c.in-Some.text)) is_at file.0 in
+    let both = sym has.there ∙ here in
+    let text : has.text ≡ c.in-Some.text = cc in
+    c.finish_text.ensures.stops path is t (c.read_text.ensures.only_read.told ∙ told) journal is_at
+    (subst (λ bytes. map.get t c.in_ok-at.at ≡ Some (File bytes)) (sym c.as_slice.ensures) file.0)
+    (subst (λ bytes. length bytes < 2 ^ 64) (sym c.as_slice.ensures) file.1)
+    (subst (λ bytes. Says bytes journal) (text ∙ sym c.as_slice.ensures) has.says)

@@ -17,6 +17,12 @@ use Rattle.std.proofs.Common.{refl, inl, inr}
 use Rattle.std.specs.Prelude.{◌⊎◌}
 use Rattle.install_world.proofs.RecoveryFits.{work_by_kind}
 use Rattle.install_world.proofs.FinishSteps.{leaf_shown}
+use Rattle.install_world.proofs.FinishAgain.{keeps_read, keeps_same}
+use Rattle.install_world.proofs.RecoveryCauses.{without_work}
+use Rattle.tree_dev.specs.Trees.{FileTree}
+use Rattle.tree_dev.specs.Projects.{file_at}
+use Rattle.install_world.proofs.FinishSteps.{reads_then}
+use Rattle.install_world.proofs.FinishStops.{stops_at_once}
 use Rattle.install_world.proofs.recovery.finish_install.Goals as goal
 
 pub child-requires : goal.child-requires
@@ -153,3 +159,53 @@ returns-in_default-clause-other g c = λ path is t told. record {
       c.in_default.not-Folder c.in_default.not-Absent in
       cc);
 }
+
+pub returns-in_err-work-clause-never_vanished : goal.returns-in_err-work-clause-never_vanished
+returns-in_err-work-clause-never_vanished g c = let p = err_from_is_err_and c.from_residual.result c.from_residual.ensures.1 in rw (p.1, p.2) (λ t told. refl)
+
+pub returns-in_err-stat-clause-never_vanished : goal.returns-in_err-stat-clause-never_vanished
+returns-in_err-stat-clause-never_vanished g c = let p = err_from_is_err_and c.from_residual-in_err-stat.result c.from_residual-in_err-stat.ensures.1 in rw (p.1, p.2) (λ t told. refl)
+
+pub returns-in-Folder-clause-never_vanished : goal.returns-in-Folder-clause-never_vanished
+returns-in-Folder-clause-never_vanished g c = λ t told.
+    let under = subst (λ at. is_root at ≡ false) (sym c.in_ok-work.ensures) (work_under c.args.project.now) in
+    c.finish_claimed.ensures.never_vanished t (c.stat.ensures.only_read.told ∙ told) c.in_ok-work.ensures
+    (folder_is_some t c.in_ok-work.work c.in_ok-stat.field-0 (c.in_ok-stat.ensures.kind t told) c.in-Folder.is under)
+
+pub returns-in_err-work-clause-again : goal.returns-in_err-work-clause-again
+returns-in_err-work-clause-again g c = λ t told. keeps_same c.args.project.now t _ (sym (g.met.T.Tree.tells_its_disk c.args.tree.now t told).reads)
+
+pub returns-in_err-stat-clause-again : goal.returns-in_err-stat-clause-again
+returns-in_err-stat-clause-again g c = λ t told. keeps_read c.args.project.now _ _ t _ (g.met.T.Tree.tells_its_disk c.args.tree.now t told) c.stat.ensures.only_read
+
+pub returns-in-Absent-clause-again : goal.returns-in-Absent-clause-again
+returns-in-Absent-clause-again g c = λ t told. keeps_read c.args.project.now _ _ t _ (g.met.T.Tree.tells_its_disk c.args.tree.now t told) c.stat.ensures.only_read
+
+pub returns-in_default-clause-again : goal.returns-in_default-clause-again
+returns-in_default-clause-again g c = λ t told. keeps_read c.args.project.now _ _ t _ (g.met.T.Tree.tells_its_disk c.args.tree.now t told) c.stat.ensures.only_read
+
+pub returns-in-Folder-clause-again : goal.returns-in-Folder-clause-again
+returns-in-Folder-clause-again g c = λ t told. c.finish_claimed.ensures.again t (c.stat.ensures.only_read.told ∙ told) c.in_ok-work.ensures
+
+pub returns-in-Absent-clause-only : goal.returns-in-Absent-clause-only
+returns-in-Absent-clause-only g c = λ t told.
+    let none = subst (λ at. map.get t at ≡ None) c.in_ok-work.ensures (absent_is_none t c.in_ok-work.work c.in_ok-stat.field-0 (c.in_ok-stat.ensures.kind t told) c.in-Absent.is) in
+    without_work c.args.project.now t none (no_work_no_journal c.args.project.now t (g.met.T.Tree.tells_trees c.args.tree.now t told) none).absent
+
+pub returns-in-Folder-clause-only : goal.returns-in-Folder-clause-only
+returns-in-Folder-clause-only g c = on_ok_weaker c.finish_claimed.result
+    (λ only t told.
+    let under = subst (λ at. is_root at ≡ false) (sym c.in_ok-work.ensures) (work_under c.args.project.now) in
+    only t (c.stat.ensures.only_read.told ∙ told) c.in_ok-work.ensures
+    (folder_is_some t c.in_ok-work.work c.in_ok-stat.field-0 (c.in_ok-stat.ensures.kind t told) c.in-Folder.is under))
+    c.finish_claimed.ensures.only
+
+pub returns-in-Folder-clause-stops : goal.returns-in-Folder-clause-stops
+returns-in-Folder-clause-stops g c = λ path is t told journal has. c.finish_claimed.ensures.stops path is t (c.stat.ensures.only_read.told ∙ told) journal c.in_ok-work.ensures has
+
+pub returns-in_default-clause-stops : goal.returns-in_default-clause-stops
+returns-in_default-clause-stops g c = λ path is t told journal has. (
+  0,
+  stops_at_once c.args.project.now journal t _ (λ at. ap (λ (w : FileTree). file_at w at)
+      (reads_then _ _ t _ (g.met.T.Tree.tells_its_disk c.args.tree.now t told) c.stat.ensures.only_read)),
+)

@@ -23,6 +23,12 @@ use Rattle.std.proofs.Common.{refl}
 use Rattle.tree_dev.specs.declared.entry.Entry.TheVariants.{Folder}
 use Rattle.install_world.proofs.PartDone.{told_still}
 use Rattle.install_world.proofs.RecoveryFits.{journal_not_bad, refused_journal, refused_part, refused_removal}
+use Rattle.install_world.proofs.FoldersThere.{journal_is_there, part_is_there, removal_is_there}
+use Rattle.install_world.proofs.FinishAgain.{keeps_ended, keeps_same, keeps_settled}
+use Rattle.tree_dev.specs.Disk.{reading}
+use Rattle.install_world.specs.Finishing.{StopsAt}
+use Rattle.install_world.specs.declared.journal.Journal.{Journal}
+use Rattle.install_world.proofs.OneJournal.{one_journal}
 use Rattle.install_world.proofs.recovery.finish_text.Goals as goal
 
 pub returns-in_err-journal-clause-writes_none : goal.returns-in_err-journal-clause-writes_none
@@ -189,22 +195,12 @@ pub returns-in_err-remove_folder-clause-fits : goal.returns-in_err-remove_folder
 returns-in_err-remove_folder-clause-fits g c =
     let p = err_from_is_err_and c.from_residual-in_err-remove_folder.result c.from_residual-in_err-remove_folder.ensures.1 in
     rw (p.1, p.2) (λ t told surroundings old new is_work is_at there small each.
-    let first = g.T.Tree.meaning c.args.tree.now in
-    let second = g.T.Tree.meaning c.barrier.new.self in
-    let disk = g.met.T.Tree.tells_its_disk c.args.tree.now t told in
-    let way = way_of c.args.project.now surroundings old new c.in_ok-journal.journal in
-    let on = way_begins c.args.project.now surroundings old new c.in_ok-journal.journal c.args.text.now t
-    (image_reads (IsInFlight c.args.project.now surroundings old new) first t disk each)
-    (subst (λ path. map.get t path ≡ Some (File c.args.text.now)) is_at there) small c.in_ok-journal.ensures.says in
-    let settles = c.in_ok-barrier.ensures.done t told in
-    let each_second = settled_images (IsOnWay way) first second t disk settles on in
-    let whole = subst (λ (disks : Disks). IsWhole disks.now) (sym settles.disks) (settled_is_whole first.disks) in
-    let told_second = settles.told ∙ told in
-    let then = told_still second (g.T.Tree.meaning c.finish_journal.new.tree) t c.in_ok-finish_journal.ensures.writes_none.tells told_second in
+    let stands = stands_by c.args.project.now c.in_ok-journal.journal t c.args.text.now (subst (λ path. map.get t path ≡ Some (File c.args.text.now)) is_at there) small c.in_ok-journal.ensures.says in
+    let told_second = barrier_told _ _ c.barrier.ensures.moments ∙ told in
+    let then = told_still (g.T.Tree.meaning c.barrier.new.self) (g.T.Tree.meaning c.finish_journal.new.tree) t c.in_ok-finish_journal.ensures.writes_none.tells told_second in
     refused_removal (Unit {0}) Recovered c.in_err-remove_folder.field-0.0
     (c.in_err-remove_folder.ensures.never_vanished then.0 then.1
-    (subst (λ path. map.get then.0 path ≡ Some Folder) (sym is_work)
-    (c.in_ok-finish_journal.ensures.work t told_second whole way refl refl is_at each_second then.0 then.1))))
+    (subst (λ path. map.get then.0 path ≡ Some Folder) (sym is_work) (c.in_ok-finish_journal.ensures.work t told_second is_at stands then.0 then.1))))
 
 pub returns-in_err-journal-clause-other : goal.returns-in_err-journal-clause-other
 returns-in_err-journal-clause-other g c = λ path is.
@@ -248,3 +244,85 @@ returns-in_err-remove_folder-clause-not_limit g c = λ limit is.
     let given = p.1 in
     let from = p.2 in
     no_limit_removal c.in_err-remove_folder.field-0.0 limit cc
+
+pub returns-in_err-journal-clause-never_vanished : goal.returns-in_err-journal-clause-never_vanished
+returns-in_err-journal-clause-never_vanished g c = let p = err_from_is_err_and c.from_residual.result c.from_residual.ensures.1 in rw (p.1, p.2) (λ t told is_work is_at there small. journal_is_there Recovered c.in_err-journal.field-0.0)
+
+pub returns-in_err-barrier-clause-never_vanished : goal.returns-in_err-barrier-clause-never_vanished
+returns-in_err-barrier-clause-never_vanished g c = let p = err_from_is_err_and c.from_residual-in_err-barrier.result c.from_residual-in_err-barrier.ensures.1 in rw (p.1, p.2) (λ t told is_work is_at there small. refl)
+
+pub returns-in_err-finish_journal-clause-never_vanished : goal.returns-in_err-finish_journal-clause-never_vanished
+returns-in_err-finish_journal-clause-never_vanished g c = let p = err_from_is_err_and c.from_residual-in_err-finish_journal.result c.from_residual-in_err-finish_journal.ensures.1 in rw (p.1, p.2) (λ t told is_work is_at there small.
+    let stands = stands_by c.args.project.now c.in_ok-journal.journal t c.args.text.now (subst (λ path. map.get t path ≡ Some (File c.args.text.now)) is_at there) small c.in_ok-journal.ensures.says in
+    part_is_there (Unit {0}) Recovered c.in_err-finish_journal.field-0.0
+    (c.in_err-finish_journal.ensures.never_vanished t (barrier_told _ _ c.barrier.ensures.moments ∙ told) is_at stands))
+
+pub returns-in_err-remove_folder-clause-never_vanished : goal.returns-in_err-remove_folder-clause-never_vanished
+returns-in_err-remove_folder-clause-never_vanished g c = let p = err_from_is_err_and c.from_residual-in_err-remove_folder.result c.from_residual-in_err-remove_folder.ensures.1 in rw (p.1, p.2) (λ t told is_work is_at there small.
+    let stands = stands_by c.args.project.now c.in_ok-journal.journal t c.args.text.now (subst (λ path. map.get t path ≡ Some (File c.args.text.now)) is_at there) small c.in_ok-journal.ensures.says in
+    let told_second = barrier_told _ _ c.barrier.ensures.moments ∙ told in
+    let then = told_still (g.T.Tree.meaning c.barrier.new.self) (g.T.Tree.meaning c.finish_journal.new.tree) t c.in_ok-finish_journal.ensures.writes_none.tells told_second in
+    removal_is_there (Unit {0}) Recovered c.in_err-remove_folder.field-0.0
+    (c.in_err-remove_folder.ensures.never_vanished then.0 then.1
+    (subst (λ path. map.get then.0 path ≡ Some Folder) (sym is_work) (c.in_ok-finish_journal.ensures.work t told_second is_at stands then.0 then.1))))
+
+pub returns-in_err-journal-clause-again : goal.returns-in_err-journal-clause-again
+returns-in_err-journal-clause-again g c = λ t told is_work is_at there small.
+    keeps_same c.args.project.now t _ (sym (g.met.T.Tree.tells_its_disk c.args.tree.now t told).reads)
+
+pub returns-in_err-barrier-clause-again : goal.returns-in_err-barrier-clause-again
+returns-in_err-barrier-clause-again g c = λ t told is_work is_at there small.
+    keeps_settled c.args.project.now _ _ t (g.met.T.Tree.tells_its_disk c.args.tree.now t told) c.barrier.ensures.moments
+
+pub returns-in_err-finish_journal-clause-again : goal.returns-in_err-finish_journal-clause-again
+returns-in_err-finish_journal-clause-again g c = λ t told is_work is_at there small.
+    let stands = stands_by c.args.project.now c.in_ok-journal.journal t c.args.text.now (subst (λ path. map.get t path ≡ Some (File c.args.text.now)) is_at there) small c.in_ok-journal.ensures.says in
+    c.finish_journal.ensures.again t (barrier_told _ _ c.barrier.ensures.moments ∙ told) is_at stands
+
+pub returns-in_err-remove_folder-clause-again : goal.returns-in_err-remove_folder-clause-again
+returns-in_err-remove_folder-clause-again g c = λ t told is_work is_at there small.
+    let project = c.args.project.now in
+    let journal = c.in_ok-journal.journal in
+    let stands = stands_by c.args.project.now c.in_ok-journal.journal t c.args.text.now (subst (λ path. map.get t path ≡ Some (File c.args.text.now)) is_at there) small c.in_ok-journal.ensures.says in
+    let done = c.in_ok-finish_journal.ensures.finished t (barrier_told _ _ c.barrier.ensures.moments ∙ told) is_at stands in
+    keeps_ended project journal t (g.T.Tree.meaning c.remove_folder.new.tree) stands.has
+    (recovered_goes project c.args.work.now (finished_by project journal.targets t) (g.T.Tree.meaning c.finish_journal.new.tree) (g.T.Tree.meaning c.remove_folder.new.tree) is_work
+    c.remove_folder.ensures.removes done)
+
+pub returns-clause-again : goal.returns-clause-again
+returns-clause-again g c = λ t told is_work is_at there small.
+    let project = c.args.project.now in
+    let journal = c.in_ok-journal.journal in
+    let stands = stands_by c.args.project.now c.in_ok-journal.journal t c.args.text.now (subst (λ path. map.get t path ≡ Some (File c.args.text.now)) is_at there) small c.in_ok-journal.ensures.says in
+    let done = c.in_ok-finish_journal.ensures.finished t (barrier_told _ _ c.barrier.ensures.moments ∙ told) is_at stands in
+    keeps_ended project journal t (g.T.Tree.meaning c.remove_folder.new.tree) stands.has
+    (recovered_goes project c.args.work.now (finished_by project journal.targets t) (g.T.Tree.meaning c.finish_journal.new.tree) (g.T.Tree.meaning c.remove_folder.new.tree) is_work
+    c.remove_folder.ensures.removes done)
+
+pub returns-clause-says : goal.returns-clause-says
+returns-clause-says g c = (c.in_ok-journal.journal, c.in_ok-journal.ensures.says)
+
+pub returns-in_err-journal-clause-stops : goal.returns-in_err-journal-clause-stops
+returns-in_err-journal-clause-stops g c = λ path is.
+    let p = err_from_is_err_and c.from_residual.result c.from_residual.ensures.1 in
+    let given = p.1 in
+    let from = p.2 in
+    absurd (no_other_journal c.in_err-journal.field-0.0 path cc)
+
+pub returns-in_err-finish_journal-clause-stops : goal.returns-in_err-finish_journal-clause-stops
+returns-in_err-finish_journal-clause-stops g c = λ path is t told journal is_at there small says.
+    let p = err_from_is_err_and c.from_residual-in_err-finish_journal.result c.from_residual-in_err-finish_journal.ensures.1 in
+    let given = p.1 in
+    let from = p.2 in
+    let same : fault_of_part c.in_err-finish_journal.field-0.0 ≡ OtherEntry path = cc in
+    let stands = stands_by c.args.project.now c.in_ok-journal.journal t c.args.text.now (subst (λ path. map.get t path ≡ Some (File c.args.text.now)) is_at there) small c.in_ok-journal.ensures.says in
+    let one = one_journal c.args.text.now c.in_ok-journal.journal journal small c.in_ok-journal.ensures.says says in
+    let found = c.in_err-finish_journal.ensures.stops path (ap Err (other_part c.in_err-finish_journal.field-0.0 path same)) t (barrier_told _ _ c.barrier.ensures.moments ∙ told) stands in
+    (found.0, subst (λ (j : Journal). StopsAt c.args.project.now j found.0 t (reading (g.T.Tree.meaning c.finish_journal.new.tree).disks.now)) one found.1)
+
+pub returns-in_err-remove_folder-clause-stops : goal.returns-in_err-remove_folder-clause-stops
+returns-in_err-remove_folder-clause-stops g c = λ path is.
+    let p = err_from_is_err_and c.from_residual-in_err-remove_folder.result c.from_residual-in_err-remove_folder.ensures.1 in
+    let given = p.1 in
+    let from = p.2 in
+    absurd (no_other_removal c.in_err-remove_folder.field-0.0 path cc)

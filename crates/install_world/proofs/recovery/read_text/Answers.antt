@@ -2,7 +2,7 @@ use Rattle.std.proofs.Common.{◌∙◌, ℕ, List, Option, sym, arith}
 use Rattle.tree_dev.specs.declared.entry.ReadAnswer.{ReadAnswer}
 use Rattle.std.proofs.lemmas.Result.{err_from_is_err_and}
 use Rattle.install_world.proofs.RecoveryRules.{absent_read, bytes_read, read_failing}
-use Rattle.std.proofs.Common.{◌≡◌, true, false, Some, refl, subst}
+use Rattle.std.proofs.Common.{◌≡◌, true, false, Some, refl, subst, inl, inr}
 use Rattle.std.specs.Prelude.{◌⊎◌}
 use Rattle.std.specs.FinMap as map
 use Rattle.tree_dev.specs.Trees.{entry_at}
@@ -10,6 +10,7 @@ use Rattle.tree_dev.specs.Changes.{is_leaf, is_root}
 use Rattle.tree_dev.specs.declared.entry.Entry.TheVariants.{Folder}
 use Rattle.install_world.proofs.RecoveryCauses.{long_read, no_file_read, no_limit_tree, no_other_tree}
 use Rattle.install_world.proofs.RecoveryFits.{no_folder_read, not_too_long, refused_tree}
+use Rattle.install_world.proofs.FoldersThere.{tree_is_there}
 use Rattle.install_world.proofs.recovery.read_text.Goals as goal
 
 pub returns-in_err-text-clause-only_read : goal.returns-in_err-text-clause-only_read
@@ -81,3 +82,21 @@ pub returns-in_ok-copy-in-TooLong-clause-limit : goal.returns-in_ok-copy-in-TooL
 returns-in_ok-copy-in-TooLong-clause-limit g c = λ limit is.
     let copied = c.in_ok-copy-in-TooLong.ensures in
     (cc, (c.in_ok-text.ensures.only_read, λ t told under. long_read t c.in_ok-text.field-0 c.args.at.now under (c.in_ok-text.ensures.answer t told) c.in-TooLong.is))
+
+pub returns-in_err-text-clause-never_vanished : goal.returns-in_err-text-clause-never_vanished
+returns-in_err-text-clause-never_vanished g c = let p = err_from_is_err_and c.from_residual.result c.from_residual.ensures.1 in rw (p.1, p.2) (tree_is_there (Option (List ℕ)) c.in_err-text.field-0.0)
+
+pub returns-in_err-copy-in-NotFile-clause-never_vanished : goal.returns-in_err-copy-in-NotFile-clause-never_vanished
+returns-in_err-copy-in-NotFile-clause-never_vanished g c = let p = err_from_is_err_and c.from_residual-in_err-copy-in-NotFile.result c.from_residual-in_err-copy-in-NotFile.ensures.1 in rw (p.1, p.2) (refl)
+
+pub returns-in_err-copy-in-TooLong-clause-never_vanished : goal.returns-in_err-copy-in-TooLong-clause-never_vanished
+returns-in_err-copy-in-TooLong-clause-never_vanished g c = let p = err_from_is_err_and c.from_residual-in_err-copy-in-TooLong.result c.from_residual-in_err-copy-in-TooLong.ensures.1 in rw (p.1, p.2) (refl)
+
+pub returns-in-Bytes-clause-readable : goal.returns-in-Bytes-clause-readable
+returns-in-Bytes-clause-readable g c = λ t told under.
+    let found = bytes_read t c.args.at.now 67108864 c.in-Bytes.text (sym c.in-Bytes.is ∙ c.in_ok-text.ensures.answer t told) in
+    record { either = inr (c.in-Bytes.text, found.0, found.1) }
+
+pub returns-in-Absent-clause-readable : goal.returns-in-Absent-clause-readable
+returns-in-Absent-clause-readable g c = λ t told under.
+    record { either = inl (absent_read t c.args.at.now 67108864 (sym c.in-Absent.is ∙ c.in_ok-text.ensures.answer t told)) }

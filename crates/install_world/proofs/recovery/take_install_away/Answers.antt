@@ -13,6 +13,11 @@ use Rattle.std.proofs.Common.{refl, ◌∙◌}
 use Rattle.install_world.proofs.PlacesFree.{barrier_told}
 use Rattle.install_world.proofs.RecoveryFits.{refused_removal}
 use Rattle.install_world.proofs.RecoveryCauses.{no_limit_removal, no_other_removal}
+use Rattle.install_world.proofs.FoldersThere.{removal_is_there}
+use Rattle.tree_dev.specs.Trees.{FileTree}
+use Rattle.tree_dev.specs.Disk.{reading}
+use Rattle.install_world.proofs.FinishAgain.{keeps_removed, keeps_settled}
+use Rattle.install_world.proofs.PartCleared.{barrier_keeps_reading}
 use Rattle.install_world.proofs.recovery.take_install_away.Goals as goal
 
 pub returns-in_err-barrier-clause-writes_none : goal.returns-in_err-barrier-clause-writes_none
@@ -85,3 +90,29 @@ returns-in_err-remove_folder-clause-not_limit g c = λ limit is.
     let given = p.1 in
     let from = p.2 in
     no_limit_removal c.in_err-remove_folder.field-0.0 limit cc
+
+pub returns-in_err-barrier-clause-never_vanished : goal.returns-in_err-barrier-clause-never_vanished
+returns-in_err-barrier-clause-never_vanished g c = let p = err_from_is_err_and c.from_residual.result c.from_residual.ensures.1 in rw (p.1, p.2) (λ t told stands. refl)
+
+pub returns-in_err-remove_folder-clause-never_vanished : goal.returns-in_err-remove_folder-clause-never_vanished
+returns-in_err-remove_folder-clause-never_vanished g c = let p = err_from_is_err_and c.from_residual-in_err-remove_folder.result c.from_residual-in_err-remove_folder.ensures.1 in rw (p.1, p.2) (λ t told stands.
+    removal_is_there (Unit {0}) Recovered c.in_err-remove_folder.field-0.0
+    (c.in_err-remove_folder.ensures.never_vanished t (barrier_told _ _ c.barrier.ensures.moments ∙ told) stands))
+
+pub returns-in_err-barrier-clause-again : goal.returns-in_err-barrier-clause-again
+returns-in_err-barrier-clause-again g c = λ t told project is none.
+    keeps_settled project _ _ t (g.met.T.Tree.tells_its_disk c.args.tree.now t told) c.barrier.ensures.moments
+
+pub returns-in_err-remove_folder-clause-again : goal.returns-in_err-remove_folder-clause-again
+returns-in_err-remove_folder-clause-again g c = λ t told project is none.
+    keeps_removed project c.args.work.now t _ is none
+    (subst (λ (w : FileTree). OnlyRemoved c.args.work.now w (reading (g.T.Tree.meaning c.remove_folder.new.tree).disks.now))
+    (barrier_keeps_reading (g.T.Tree.meaning c.args.tree.now) (g.T.Tree.meaning c.barrier.new.self) c.barrier.ensures.moments ∙ sym (g.met.T.Tree.tells_its_disk c.args.tree.now t told).reads)
+    c.remove_folder.ensures.removes.reads)
+
+pub returns-clause-again : goal.returns-clause-again
+returns-clause-again g c = λ t told project is none.
+    keeps_removed project c.args.work.now t _ is none
+    (subst (λ (w : FileTree). OnlyRemoved c.args.work.now w (reading (g.T.Tree.meaning c.remove_folder.new.tree).disks.now))
+    (barrier_keeps_reading (g.T.Tree.meaning c.args.tree.now) (g.T.Tree.meaning c.barrier.new.self) c.barrier.ensures.moments ∙ sym (g.met.T.Tree.tells_its_disk c.args.tree.now t told).reads)
+    c.remove_folder.ensures.removes.reads)

@@ -6,9 +6,10 @@ use Rattle.install_world.specs.InFlight.{AreAllDone}
 use Rattle.install_world.specs.Moving.{IsOnWay}
 use Rattle.install_world.proofs.JournalEnds.{nothing_more, way_then}
 use Rattle.install_world.proofs.PartDone.{told_still}
-use Rattle.install_world.proofs.PartFinish.{way_reads}
+use Rattle.install_world.proofs.FoldersThere.{old_work}
+use Rattle.install_world.proofs.PartFinish.{way_old_folder, way_reads}
 use Rattle.install_world.proofs.RemovalRules.{writes_none_on}
-use Rattle.install_world.proofs.RoomMade.{work_not_journal, work_stands}
+use Rattle.install_world.proofs.RoomMade.{work_not_journal}
 use Rattle.vendor_journal.specs.Prepared.{ArePrepared}
 use Rattle.vendor_journal.proofs.commits.finish.Goals as goal
 
@@ -108,4 +109,4 @@ returns-in-Done-clause-work g c = λ t told whole way is each u after.
     let disk = g.met.T.Tree.tells_its_disk c.move_parts.new.tree now.0 now.1 in
     let on = way_reads way second now.0 disk (through_ends (IsOnWay way) first second (c.move_parts.ensures.through t told whole way parts each)) in
     c.in_ok-remove_journal.ensures.others c.in-Done.is now.0 now.1 u after (work_path way.project) (λ e. work_not_journal way.project (e ∙ is.at_is))
-    ∙ work_stands way now.0 (g.met.T.Tree.tells_trees c.move_parts.new.tree now.0 now.1) on
+    ∙ old_work way.project now.0 (g.met.T.Tree.tells_trees c.move_parts.new.tree now.0 now.1) (way_old_folder way now.0 on)

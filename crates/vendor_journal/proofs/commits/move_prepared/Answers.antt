@@ -3,6 +3,7 @@ use Rattle.std.proofs.lemmas.Result.{err_from_is_err_and}
 use Rattle.tree_dev.specs.Disk.{reading}
 use Rattle.install_world.specs.InFlight.{IsPartDone}
 use Rattle.std.proofs.Common.{refl}
+use Rattle.install_world.proofs.PartFinish.{way_folders}
 use Rattle.vendor_journal.proofs.commits.move_prepared.Goals as goal
 
 pub returns-in_err-move_part-clause-writes_none : goal.returns-in_err-move_part-clause-writes_none
@@ -32,6 +33,6 @@ returns-in_err-move_part-clause-never_vanished g c =
 
 pub returns-in-Misplaced-clause-never_vanished : goal.returns-in-Misplaced-clause-never_vanished
 returns-in-Misplaced-clause-never_vanished g c = λ t told way number target is part on none.
-    let done = c.in_ok-move_part.ensures.fits t told way number target is.places part (sym is.mark) on (record { free = λ there why. none }) in
+    let done = c.in_ok-move_part.ensures.fits t told way.project number target is.places (way_folders way way.project t refl on number target part) (sym is.mark) (record { free = λ there why. none }) in
     let misplaced = c.in-Misplaced.is in
     absurd cc

@@ -27,36 +27,36 @@ pub returns-in_err-rename-clause-through : goal.returns-in_err-rename-clause-thr
 returns-in_err-rename-clause-through g c = λ way puts t ready whole alone each.
     named_through way puts c.args.prepared.now t ready _ _ c.rename.ensures.moments whole alone each
 
-pub returns-in_err-barrier-in-Done-clause-calls : goal.returns-in_err-barrier-in-Done-clause-calls
-returns-in_err-barrier-in-Done-clause-calls g c =
-    let p = err_from_is_err_and c.from_residual-in_err-barrier-in-Done.result c.from_residual-in_err-barrier-in-Done.ensures.1 in
-    rw p.1 (calls_barrier _ _ _ _ c.barrier.ensures.moments (λ failed. c.in_err-barrier-in-Done.ensures.cause)
+pub returns-in_err-make_safe-in-Done-clause-calls : goal.returns-in_err-make_safe-in-Done-clause-calls
+returns-in_err-make_safe-in-Done-clause-calls g c =
+    let p = err_from_is_err_and c.from_residual-in_err-make_safe-in-Done.result c.from_residual-in_err-make_safe-in-Done.ensures.1 in
+    rw p.1 (calls_barrier _ _ _ _ c.make_safe.ensures.moments (λ failed. c.in_err-make_safe-in-Done.ensures.cause)
     (calls_change _ _ _ _ _ c.rename.ensures.moments (λ failed. absurd cc) (calls_start _)))
 
-pub returns-in_err-barrier-in-Done-clause-through : goal.returns-in_err-barrier-in-Done-clause-through
-returns-in_err-barrier-in-Done-clause-through g c = λ way puts t ready whole alone each.
-    through_then_barrier (IsInFlight way.project way.surroundings way.old way.new) _ _ _ c.barrier.ensures.moments
+pub returns-in_err-make_safe-in-Done-clause-through : goal.returns-in_err-make_safe-in-Done-clause-through
+returns-in_err-make_safe-in-Done-clause-through g c = λ way puts t ready whole alone each.
+    through_then_barrier (IsInFlight way.project way.surroundings way.old way.new) _ _ _ c.make_safe.ensures.moments
     (named_through way puts c.args.prepared.now t ready _ _ c.rename.ensures.moments whole alone each)
 
-pub returns-in_ok-barrier-in-Done-clause-calls : goal.returns-in_ok-barrier-in-Done-clause-calls
-returns-in_ok-barrier-in-Done-clause-calls g c =
-    calls_barrier _ _ _ _ c.barrier.ensures.moments (λ failed. absurd cc)
+pub returns-in_ok-make_safe-in-Done-clause-calls : goal.returns-in_ok-make_safe-in-Done-clause-calls
+returns-in_ok-make_safe-in-Done-clause-calls g c =
+    calls_barrier _ _ _ _ c.make_safe.ensures.moments (λ failed. absurd cc)
     (calls_change _ _ _ _ _ c.rename.ensures.moments (λ failed. absurd cc) (calls_start _))
 
-pub returns-in_ok-barrier-in-Done-clause-through : goal.returns-in_ok-barrier-in-Done-clause-through
-returns-in_ok-barrier-in-Done-clause-through g c = λ way puts t ready whole alone each.
-    through_then_barrier (IsInFlight way.project way.surroundings way.old way.new) _ _ _ c.barrier.ensures.moments
+pub returns-in_ok-make_safe-in-Done-clause-through : goal.returns-in_ok-make_safe-in-Done-clause-through
+returns-in_ok-make_safe-in-Done-clause-through g c = λ way puts t ready whole alone each.
+    through_then_barrier (IsInFlight way.project way.surroundings way.old way.new) _ _ _ c.make_safe.ensures.moments
     (named_through way puts c.args.prepared.now t ready _ _ c.rename.ensures.moments whole alone each)
 
-pub returns-in_ok-barrier-in-Done-clause-named : goal.returns-in_ok-barrier-in-Done-clause-named
-returns-in_ok-barrier-in-Done-clause-named g c = λ done u told way puts t ready alone.
+pub returns-in_ok-make_safe-in-Done-clause-named : goal.returns-in_ok-make_safe-in-Done-clause-named
+returns-in_ok-make_safe-in-Done-clause-named g c = λ done u told way puts t ready alone.
     let first = g.T.Tree.meaning c.args.tree.now in
     let second = g.T.Tree.meaning c.rename.new.self in
-    let third = g.T.Tree.meaning c.barrier.new.self in
+    let third = g.T.Tree.meaning c.make_safe.new.tree in
     let run = calls_change first first second (Renamed c.args.prepared.now.draft c.args.prepared.now.at) false c.rename.ensures.moments (λ failed. absurd cc) (calls_start first) in
     let now = told_still first second u run.tells told in
     let adds = c.in_ok-rename.ensures.done c.in-Done.is u told in
-    let settles = c.in_ok-barrier-in-Done.ensures.done now.0 now.1 in (
+    let settles = c.in_ok-make_safe-in-Done.ensures.done now.0 now.1 in (
       settled_whole second third settles,
       λ left image.
           subst (IsOnWay way) (sym (settled_alone second third settles left image ∙ named_reads way puts c.args.prepared.now t ready first second adds alone))
@@ -70,15 +70,15 @@ pub returns-in-Misplaced-clause-through : goal.returns-in-Misplaced-clause-throu
 returns-in-Misplaced-clause-through g c = λ way puts t ready whole alone each.
     named_through way puts c.args.prepared.now t ready _ _ c.rename.ensures.moments whole alone each
 
-pub returns-in_ok-barrier-in-Done-clause-room : goal.returns-in_ok-barrier-in-Done-clause-room
-returns-in_ok-barrier-in-Done-clause-room g c = λ done u told way puts t ready alone.
+pub returns-in_ok-make_safe-in-Done-clause-room : goal.returns-in_ok-make_safe-in-Done-clause-room
+returns-in_ok-make_safe-in-Done-clause-room g c = λ done u told way puts t ready alone.
     let first = g.T.Tree.meaning c.args.tree.now in
     let second = g.T.Tree.meaning c.rename.new.self in
-    let third = g.T.Tree.meaning c.barrier.new.self in
+    let third = g.T.Tree.meaning c.make_safe.new.tree in
     let run = calls_change first first second (Renamed c.args.prepared.now.draft c.args.prepared.now.at) false c.rename.ensures.moments (λ failed. absurd cc) (calls_start first) in
     let now = told_still first second u run.tells told in
     let adds = c.in_ok-rename.ensures.done c.in-Done.is u told in
-    let settles = c.in_ok-barrier-in-Done.ensures.done now.0 now.1 in
+    let settles = c.in_ok-make_safe-in-Done.ensures.done now.0 now.1 in
     subst (HasRoomFrom way.project 0)
     (sym (settled_alone second third settles (reading third.disks.now) (reading_is_image third.disks.now) ∙ named_reads way puts c.args.prepared.now t ready first second adds alone))
     (room_placed way puts c.args.prepared.now t ready)

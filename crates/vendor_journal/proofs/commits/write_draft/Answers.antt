@@ -21,36 +21,36 @@ pub returns-in_err-write-clause-steady : goal.returns-in_err-write-clause-steady
 returns-in_err-write-clause-steady g c = λ project is.
     steady_then_write project _ _ _ _ _ c.write.ensures.moments (subst (IsStaged project) (sym is) (draft_staged project)) (steady_start project _)
 
-pub returns-in_err-barrier-in-Done-clause-calls : goal.returns-in_err-barrier-in-Done-clause-calls
-returns-in_err-barrier-in-Done-clause-calls g c =
-    let p = err_from_is_err_and c.from_residual-in_err-barrier-in-Done.result c.from_residual-in_err-barrier-in-Done.ensures.1 in
-    rw p.1 (calls_barrier _ _ _ _ c.barrier.ensures.moments (λ failed. c.in_err-barrier-in-Done.ensures.cause)
+pub returns-in_err-make_safe-in-Done-clause-calls : goal.returns-in_err-make_safe-in-Done-clause-calls
+returns-in_err-make_safe-in-Done-clause-calls g c =
+    let p = err_from_is_err_and c.from_residual-in_err-make_safe-in-Done.result c.from_residual-in_err-make_safe-in-Done.ensures.1 in
+    rw p.1 (calls_barrier _ _ _ _ c.make_safe.ensures.moments (λ failed. c.in_err-make_safe-in-Done.ensures.cause)
     (calls_change _ _ _ _ _ c.write.ensures.moments (λ failed. absurd cc) (calls_start _)))
 
-pub returns-in_err-barrier-in-Done-clause-steady : goal.returns-in_err-barrier-in-Done-clause-steady
-returns-in_err-barrier-in-Done-clause-steady g c = λ project is.
-    steady_then_barrier project _ _ _ c.barrier.ensures.moments
+pub returns-in_err-make_safe-in-Done-clause-steady : goal.returns-in_err-make_safe-in-Done-clause-steady
+returns-in_err-make_safe-in-Done-clause-steady g c = λ project is.
+    steady_then_barrier project _ _ _ c.make_safe.ensures.moments
     (steady_then_write project _ _ _ _ _ c.write.ensures.moments (subst (IsStaged project) (sym is) (draft_staged project)) (steady_start project _))
 
-pub returns-in_ok-barrier-in-Done-clause-calls : goal.returns-in_ok-barrier-in-Done-clause-calls
-returns-in_ok-barrier-in-Done-clause-calls g c =
-    calls_barrier _ _ _ _ c.barrier.ensures.moments (λ failed. absurd cc)
+pub returns-in_ok-make_safe-in-Done-clause-calls : goal.returns-in_ok-make_safe-in-Done-clause-calls
+returns-in_ok-make_safe-in-Done-clause-calls g c =
+    calls_barrier _ _ _ _ c.make_safe.ensures.moments (λ failed. absurd cc)
     (calls_change _ _ _ _ _ c.write.ensures.moments (λ failed. absurd cc) (calls_start _))
 
-pub returns-in_ok-barrier-in-Done-clause-steady : goal.returns-in_ok-barrier-in-Done-clause-steady
-returns-in_ok-barrier-in-Done-clause-steady g c = λ project is.
-    steady_then_barrier project _ _ _ c.barrier.ensures.moments
+pub returns-in_ok-make_safe-in-Done-clause-steady : goal.returns-in_ok-make_safe-in-Done-clause-steady
+returns-in_ok-make_safe-in-Done-clause-steady g c = λ project is.
+    steady_then_barrier project _ _ _ c.make_safe.ensures.moments
     (steady_then_write project _ _ _ _ _ c.write.ensures.moments (subst (IsStaged project) (sym is) (draft_staged project)) (steady_start project _))
 
-pub returns-in_ok-barrier-in-Done-clause-written : goal.returns-in_ok-barrier-in-Done-clause-written
-returns-in_ok-barrier-in-Done-clause-written g c = λ done t told.
+pub returns-in_ok-make_safe-in-Done-clause-written : goal.returns-in_ok-make_safe-in-Done-clause-written
+returns-in_ok-make_safe-in-Done-clause-written g c = λ done t told.
     let first = g.T.Tree.meaning c.args.tree.now in
     let second = g.T.Tree.meaning c.write.new.self in
-    let third = g.T.Tree.meaning c.barrier.new.self in
+    let third = g.T.Tree.meaning c.make_safe.new.tree in
     let run = calls_change first first second (Written c.args.prepared.now.draft c.as_slice.result.now) false c.write.ensures.moments (λ failed. absurd cc) (calls_start first) in
     let now = told_still first second t run.tells told in
     let adds = c.in_ok-write.ensures.done c.in-Done.is t told in
-    let settles = c.in_ok-barrier-in-Done.ensures.done now.0 now.1 in (
+    let settles = c.in_ok-make_safe-in-Done.ensures.done now.0 now.1 in (
       settled_whole second third settles,
       λ left image.
           settled_alone second third settles left image
