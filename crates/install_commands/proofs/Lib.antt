@@ -1,0 +1,5 @@
+pub mod Claims
+pub mod Faults
+pub mod Flights
+pub mod Ends
+pub mod WriteCounts

@@ -1,0 +1,4 @@
+pub mod Refusals
+pub mod Claiming
+pub mod Working
+pub mod Recovering
