@@ -18,3 +18,4 @@ pub mod KnownSteps
 pub mod JobParts
 pub mod WholeResults
 pub mod Topmost
+pub mod FewFiles

@@ -7,3 +7,4 @@ pub mod Known
 pub mod Joined
 pub mod Gathered
 pub mod Moves
+pub mod Differing

@@ -13,7 +13,8 @@ mod standing;
 mod unneeded;
 
 pub use laws::{
-    gone_parts_are_topmost, jobs_make_the_wanted, parts_are_wanted, written_files_stand_alone,
+    few_files_are_written, gone_parts_are_topmost, jobs_make_the_wanted, jobs_write_what_differs,
+    parts_are_wanted, written_files_stand_alone,
 };
 pub use search::moves;
 
