@@ -3,3 +3,4 @@ pub mod Faults
 pub mod Flights
 pub mod Ends
 pub mod WriteCounts
+pub mod Recoveries

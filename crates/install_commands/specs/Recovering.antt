@@ -1,9 +1,55 @@
--- What `recover` says of what it did.
-use Rattle.std.specs.Prelude.{ℕ, List, [], ◌∷◌, ◌++◌, codes}
+-- What `recover` answers over a tree, and what it does to one.
+use Rattle.std.specs.Prelude.{◌≡◌, ℕ, List, [], ◌∷◌, ◌++◌, codes, Bool, ◌||◌, false, nat_eq, None, Result, Ok, Err, IsTrue}
+use Rattle.std.specs.FinMap as map
+use Rattle.tree_dev.specs.Trees.{FileTree}
+use Rattle.tree_dev.specs.Device.{Meaning, OfTold}
+use Rattle.tree_dev.specs.Disk.{reading}
+use Rattle.tree_dev.specs.Projects.{journal_path, work_path}
+use Rattle.tree_dev.specs.Steady.{EachImage, Through}
+use Rattle.install_world.specs.InFlight.{Files, HasFiles, IsFinishedProject, IsInFlight, IsThere}
+use Rattle.install_world.specs.Recovery.{HasBadJournal, IsLong, IsOtherEntry, IsRecovered, recovered_in}
+use Rattle.tree_dev.specs.declared.limits.LimitKind.TheVariants.{FileBytes}
 use Rattle.install_world.specs.declared.recovery_fault.Recovered.{Recovered}
 use Rattle.install_world.specs.declared.recovery_fault.Recovered.TheVariants as did
+use Rattle.run_answers.specs.Statuses.{status_of}
+use Rattle.run_answers.specs.declared.refusal.Refusal.{Refusal}
+use Rattle.run_answers.specs.declared.refusal.Refusal.TheVariants as refusals
+
+-- ---- what it answers
 
 unfoldable pub recovery_line : Recovered → List ℕ
 recovery_line did.NothingToDo = codes "nothing to do" ++ 10 ∷ []
 recovery_line did.Removed = codes "removed" ++ 10 ∷ []
 recovery_line did.Finished = codes "finished" ++ 10 ∷ []
+
+-- With what recovery is refused over a tree t, where it leaves what is told afterwards: the journal is bad at that place, or it
+-- is too long; another kind of entry stands where a folder or a file is needed; or what was shown is no longer there.
+abbrev pub IsRecoveryRefused : List (List ℕ) → FileTree → Meaning → Refusal → Type 0
+IsRecoveryRefused project t now (refusals.BadJournal place) = HasBadJournal project t place
+IsRecoveryRefused project t now (refusals.OtherEntry path) = OfTold now (IsOtherEntry project path)
+IsRecoveryRefused project t now (refusals.Limit limit) = (limit ≡ FileBytes (journal_path project)) × IsLong (journal_path project) t
+IsRecoveryRefused project t now (refusals.Vanished place) = Unit {0}
+IsRecoveryRefused project t now _ = ⊥
+
+-- What is answered over a tree: the line for what is to be done there, or a refusal.
+abbrev pub IsRecoveryAnswer : List (List ℕ) → FileTree → Meaning → Result (List ℕ) Refusal → Type 0
+IsRecoveryAnswer project t now (Ok lines) = recovery_line (recovered_in project t) ≡ lines
+IsRecoveryAnswer project t now (Err refusal) = IsRecoveryRefused project t now refusal
+
+-- The journal could not be read: it is bad or too long.
+abbrev pub is_unread : {X : Type 0} → Result X Refusal → Bool
+is_unread (Ok x) = false
+is_unread (Err refusal) = nat_eq (status_of refusal) 11 || nat_eq (status_of refusal) 12
+
+-- ---- what it does
+
+-- What recovery does to a tree. Where all images are in flight from an old project to a new one, they are so at each moment.
+-- Where it is done, the project is the finished one of the tree as it read, in each image too where `.install` was there, and
+-- nothing is at `.install`.
+pub record Recovers (project : List (List ℕ)) (before now : Meaning) (done : Bool) : Type 0 where
+  pub through : OfTold before (λ t. (surroundings : FileTree) (old new : Files) → EachImage before (IsInFlight project surroundings old new)
+      → Through before now (IsInFlight project surroundings old new))
+  pub finished : IsTrue done → OfTold before (λ t. (files : Files) → IsFinishedProject project t files → HasFiles project (reading now.disks.now) files)
+  pub settled : IsTrue done → OfTold before (λ t. IsThere t (work_path project) → (files : Files) → IsFinishedProject project t files
+      → EachImage now (IsRecovered project files))
+  pub gone : IsTrue done → OfTold now (λ t. map.get t (work_path project) ≡ None)

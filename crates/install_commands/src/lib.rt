@@ -4,10 +4,12 @@
 #![tactic(auto)]
 
 mod claimed;
+mod recovering;
 mod refusals;
 mod work;
 
 pub use claimed::{claim_project, end_work};
+pub use recovering::recover;
 pub use work::Work;
 
 #[cfg(test)]
