@@ -1,6 +1,6 @@
 -- How a run ends, by what its answer is.
 use Rattle.std.proofs.Common.{◌≡◌, ◌≢◌, ◌⊎◌, ℕ, Bool, true, false, List, Option, Some, None, Result, Ok, Err, IsTrue, refl, sym, ap, subst, ◌∙◌, inl, inr, arith}
-use Rattle.std.specs.Prelude.{not, nat_eq, ◌≤◌, IfOk, IfSome}
+use Rattle.std.specs.Prelude.{not, ◌||◌, nat_eq, ◌≤◌, IfErr, IfOk, IfSome, is_ok}
 use Rattle.std.proofs.lemmas.Bool.{false≢true, eq-eqb}
 use Rattle.path_name.proofs.Joining.{both_true}
 use Rattle.tree_dev.specs.Device.{Meaning, OnlyRead, Rose}
@@ -20,8 +20,9 @@ use Rattle.class_lookup.specs.ClassNames.{class_name_of}
 use Rattle.composer_words.specs.Words.{command_of}
 use Rattle.composer_top.specs.Chosen.{or_refused}
 use Rattle.composer_top.specs.Outcome.Lookup as looking
-use Rattle.run_answers.specs.Steps.{Tells}
-use Rattle.composer_top.specs.Outcome.{KeepsToWords, Outputs, Concluded, Ends, EndsByWords, EndsWithAnswer, IsFinding, reply_to, refusal_in, task_refusal, refusal_of_choice, words_refusal}
+use Rattle.run_answers.specs.Steps.{TellsOne}
+use Rattle.install_commands.specs.Recovering.{is_unread}
+use Rattle.composer_top.specs.Outcome.{KeepsToWords, Outputs, Concluded, Ends, EndsByWords, EndsWithAnswer, IsFinding, is_done, is_unrefused, reply_to, refusal_in, task_refusal, refusal_of_choice, words_refusal}
 use Rattle.composer_top.specs.declared.report.Report.{Report}
 
 -- what a run ends with: its answer, or want of memory
@@ -63,16 +64,17 @@ free_of (refusals.OtherEntry path) free = absurd (false≢true free)
 free_of (refusals.Vanished place) free = absurd (false≢true free)
 
 module _ (outputs : Outputs) (status : ℕ) where
-  by_free : (refusal : Refusal) (wanted : Result Report Refusal) → FreeOf refusal → Concluded outputs (Err refusal) status → Ends outputs wanted status
-  by_free refusal wanted (inl device) x = inr (inl (subst (λ r. Concluded outputs (Err r) status) device x))
-  by_free refusal wanted (inr memory) x = inr (inr (subst (λ r. Concluded outputs (Err r) status) memory x))
+  by_free : (refusal : Refusal) (IsWanted : Result Report Refusal → Type 0) → FreeOf refusal → Concluded outputs (Err refusal) status → Ends outputs IsWanted status
+  by_free refusal IsWanted (inl device) x = inr (inl (subst (λ r. Concluded outputs (Err r) status) device x))
+  by_free refusal IsWanted (inr memory) x = inr (inr (subst (λ r. Concluded outputs (Err r) status) memory x))
 
-  -- the end of a run whose answer tells the outcome
-  pub told_ends : (answer wanted : Result Report Refusal) → Tells (λ report. report) wanted answer → Told outputs answer status → Ends outputs wanted status
-  told_ends (Ok report) wanted is (inl x) = inl (subst (λ a. Concluded outputs a status) (sym is) x)
-  told_ends (Err refusal) wanted (inr is) (inl x) = inl (subst (λ a. Concluded outputs a status) (sym is) x)
-  told_ends (Err refusal) wanted (inl free) (inl x) = by_free refusal wanted (free_of refusal free) x
-  told_ends answer wanted tells (inr y) = inr (inr y)
+  -- the end of a run whose answer tells an outcome
+  pub told_ends : (answer : Result Report Refusal) (IsWanted : Result Report Refusal → Type 0) → TellsOne (λ report. report) IsWanted answer → Told outputs answer status
+      → Ends outputs IsWanted status
+  told_ends (Ok report) IsWanted is (inl x) = inl (Ok report, is, x)
+  told_ends (Err refusal) IsWanted (inr is) (inl x) = inl (Err refusal, is, x)
+  told_ends (Err refusal) IsWanted (inl free) (inl x) = by_free refusal IsWanted (free_of refusal free) x
+  told_ends answer IsWanted tells (inr y) = inr (inr y)
 
   pub some_answer : (answer : Result Report Refusal) → Told outputs answer status → EndsWithAnswer outputs status
   some_answer answer (inl x) = (answer, x)
@@ -97,22 +99,22 @@ at_most_one : (lines : List ℕ) (end : Option Refusal) (status : ℕ) → IfSom
 at_most_one lines None status finding e = omega (arith, e)
 at_most_one lines (Some refusal) status finding e = omega (arith, e, finding)
 
--- The status is that of the answer, or that of want of memory, or the output failed.
+-- The status is that of the answer, or that of want of memory, or the output failed, which had lines of the answer to take.
 pub data Source (outputs : Outputs) (answer : Result Report Refusal) (status : ℕ) : Type 0 where
   own : HasStatus answer status → Source outputs answer status
   no_memory : status ≡ 10 → Source outputs answer status
-  no_output : status ≡ 9 → Rose outputs.out_before.faults outputs.out_now.faults → Source outputs answer status
+  no_output : status ≡ 9 → Rose outputs.out_before.faults outputs.out_now.faults → IsTrue (is_ok answer) → Source outputs answer status
 
 module _ (outputs : Outputs) (status : ℕ) where
   pub source : (answer : Result Report Refusal) → IfOk answer IsFinding → Told outputs answer status → Source outputs answer status
   source (Ok report) finding (inl (inl replied)) = own (at_most_one report.lines report.end status finding replied.ended)
-  source (Ok report) finding (inl (inr failed)) = no_output failed.ended failed.rose
+  source (Ok report) finding (inl (inr failed)) = no_output failed.ended failed.rose refl
   source (Ok report) finding (inr (inl replied)) = no_memory replied.ended
-  source (Ok report) finding (inr (inr failed)) = no_output failed.ended failed.rose
+  source (Ok report) finding (inr (inr failed)) = no_output failed.ended failed.rose refl
   source (Err refusal) finding (inl (inl replied)) = own replied.ended
-  source (Err refusal) finding (inl (inr failed)) = no_output failed.ended failed.rose
+  source (Err refusal) finding (inl (inr failed)) = absurd (failed.some refl)
   source (Err refusal) finding (inr (inl replied)) = no_memory replied.ended
-  source (Err refusal) finding (inr (inr failed)) = no_output failed.ended failed.rose
+  source (Err refusal) finding (inr (inr failed)) = absurd (failed.some refl)
 
   -- the status of a fault of the device is that of the answer
   pub device_fault : (answer : Result Report Refusal) → Source outputs answer status → status ≡ 8 → is_device_fault answer ≡ true
@@ -120,8 +122,19 @@ module _ (outputs : Outputs) (status : ℕ) where
   device_fault (Err refusal) (own e) eight = eq-eqb (status_of refusal) 8 (sym e ∙ eight)
   device_fault (Ok report) (no_memory e) eight = absurd (omega (arith, e, eight))
   device_fault (Err refusal) (no_memory e) eight = absurd (omega (arith, e, eight))
-  device_fault (Ok report) (no_output e rose) eight = absurd (omega (arith, e, eight))
-  device_fault (Err refusal) (no_output e rose) eight = absurd (omega (arith, e, eight))
+  device_fault (Ok report) (no_output e rose done) eight = absurd (omega (arith, e, eight))
+  device_fault (Err refusal) (no_output e rose done) eight = absurd (omega (arith, e, eight))
+
+  -- the statuses of a journal that could not be read are that of the answer
+  pub unread : (answer : Result Report Refusal) → Source outputs answer status → (status ≡ 11) ⊎ (status ≡ 12) → is_unread answer ≡ true
+  unread (Ok report) (own e) (inl eleven) = absurd (omega (arith, e, eleven))
+  unread (Ok report) (own e) (inr twelve) = absurd (omega (arith, e, twelve))
+  unread (Err refusal) (own e) (inl eleven) = ap (λ n. nat_eq n 11 || nat_eq n 12) (sym e ∙ eleven)
+  unread (Err refusal) (own e) (inr twelve) = ap (λ n. nat_eq n 11 || nat_eq n 12) (sym e ∙ twelve)
+  unread answer (no_memory e) (inl eleven) = absurd (omega (arith, e, eleven))
+  unread answer (no_memory e) (inr twelve) = absurd (omega (arith, e, twelve))
+  unread answer (no_output e rose done) (inl eleven) = absurd (omega (arith, e, eleven))
+  unread answer (no_output e rose done) (inr twelve) = absurd (omega (arith, e, twelve))
 
 -- a reading, of which less or nothing else is said of its last call
 pub read_as : {before now : Meaning} {failed other : Bool} → OnlyRead before now failed → (IsTrue other → IsTrue failed) → OnlyRead before now other
@@ -155,7 +168,7 @@ early_choice (Ok chosen) = early_task chosen.task
 early_choice (Err words_faults.Usage) = refl
 early_choice (Err words_faults.OutOfMemory) = refl
 
-early_words : (words : List (List ℕ)) → is_early (words_refusal words) ≡ true
+pub early_words : (words : List (List ℕ)) → is_early (words_refusal words) ≡ true
 unfolding words_refusal
 early_words words = early_choice (command_of words)
 
@@ -164,14 +177,47 @@ not_output None refusal ok keeps = not_so (nat_eq (status_of refusal) 9) (both_t
 not_output (Some first) refusal ok (inl same) = ap (λ (a : Result Report Refusal). nat_eq (status_in a) 9) same ∙ not_so (nat_eq (status_of first) 9) ok
 not_output (Some first) refusal ok (inr memory) = ap (λ (a : Result Report Refusal). nat_eq (status_in a) 9) memory
 
+neither : (one other : Bool) → one ≡ false → other ≡ false → (one || other) ≡ false
+neither one other e f = ap (λ b. b || other) e ∙ f
+
+-- no refusal ends with 0
+never_zero : (refusal : Refusal) → nat_eq (status_of refusal) 0 ≡ false
+never_zero refusals.DeviceFault = refl
+never_zero refusals.OutOfMemory = refl
+never_zero refusals.Usage = refl
+never_zero refusals.BadName = refl
+never_zero refusals.Nothing = refl
+never_zero refusals.NoManifest = refl
+never_zero refusals.NoLock = refl
+never_zero refusals.NoTables = refl
+never_zero (refusals.BadDocument named_files.Manifest fault) = refl
+never_zero (refusals.BadDocument (named_files.Member path) fault) = refl
+never_zero (refusals.BadDocument named_files.Lock fault) = refl
+never_zero (refusals.BadDocument named_files.Installed fault) = refl
+never_zero (refusals.NotOffered file pointer) = refl
+never_zero refusals.NoPlan = refl
+never_zero (refusals.LockUnmet rule) = refl
+never_zero (refusals.Breaks rule) = refl
+never_zero refusals.Unfinished = refl
+never_zero refusals.Pending = refl
+never_zero refusals.Changed = refl
+never_zero refusals.SinkFault = refl
+never_zero (refusals.BadJournal at) = refl
+never_zero (refusals.BadTables table at) = refl
+never_zero (refusals.Limit limit) = refl
+never_zero (refusals.MissingPath text) = refl
+never_zero (refusals.ClassmapMissing path) = refl
+never_zero (refusals.OtherEntry path) = refl
+never_zero (refusals.Vanished place) = refl
+
 module _ (outputs : Outputs) (status : ℕ) where
   output_rose : (early : Option Refusal) (answer : Result Report Refusal) → is_early early ≡ true → KeepsToWords early answer → Source outputs answer status → status ≡ 9 → Rose outputs.out_before.faults outputs.out_now.faults
   output_rose early (Ok report) ok keeps (own e) nine = absurd (omega (arith, e, nine))
   output_rose early (Err refusal) ok keeps (own e) nine = absurd (false≢true (sym (not_output early refusal ok keeps) ∙ eq-eqb (status_of refusal) 9 (sym e ∙ nine)))
   output_rose early (Ok report) ok keeps (no_memory e) nine = absurd (omega (arith, e, nine))
   output_rose early (Err refusal) ok keeps (no_memory e) nine = absurd (omega (arith, e, nine))
-  output_rose early (Ok report) ok keeps (no_output e rose) nine = rose
-  output_rose early (Err refusal) ok keeps (no_output e rose) nine = rose
+  output_rose early (Ok report) ok keeps (no_output e rose done) nine = rose
+  output_rose early (Err refusal) ok keeps (no_output e rose done) nine = rose
 
   pub output_fault : (words : List (List ℕ)) (answer : Result Report Refusal) → KeepsToWords (words_refusal words) answer → Source outputs answer status → status ≡ 9 → Rose outputs.out_before.faults outputs.out_now.faults
   output_fault words answer keeps = output_rose (words_refusal words) answer (early_words words) keeps
@@ -183,8 +229,32 @@ module _ (outputs : Outputs) (status : ℕ) where
       false≢true (sym other ∙ eq-eqb (status_of refusal) 2 (sym e ∙ two))
   not_usage (Ok report) keeps (no_memory e) two = omega (arith, e, two)
   not_usage (Err refusal) keeps (no_memory e) two = omega (arith, e, two)
-  not_usage (Ok report) keeps (no_output e rose) two = omega (arith, e, two)
-  not_usage (Err refusal) keeps (no_output e rose) two = omega (arith, e, two)
+  not_usage (Ok report) keeps (no_output e rose done) two = omega (arith, e, two)
+  not_usage (Err refusal) keeps (no_output e rose done) two = omega (arith, e, two)
+
+  -- a run that is done has an answer
+  pub done_is_answered : (words : List (List ℕ)) (answer : Result Report Refusal) → KeepsToWords (words_refusal words) answer → Source outputs answer status
+      → is_done status ≡ true → is_ok answer ≡ true
+  done_is_answered words (Ok report) keeps from done = refl
+  done_is_answered words (Err refusal) keeps (own e) done =
+      let other = not_output (words_refusal words) refusal (early_words words) keeps in
+      absurd (false≢true (sym (neither (nat_eq (status_of refusal) 0) (nat_eq (status_of refusal) 9) (never_zero refusal) other) ∙ (ap is_done (sym e) ∙ done)))
+  done_is_answered words (Err refusal) keeps (no_memory e) done = absurd (false≢true (ap is_done (sym e) ∙ done))
+  done_is_answered words (Err refusal) keeps (no_output e rose answered) done = answered
+
+  unrefused_free : (refusal : Refusal) → FreeOf refusal → status ≡ status_of refusal → is_unrefused status ≡ true
+  unrefused_free refusal (inl device) e = ap is_unrefused (e ∙ ap status_of device)
+  unrefused_free refusal (inr memory) e = ap is_unrefused (e ∙ ap status_of memory)
+
+  -- a run whose answer is not refused
+  pub unrefused : (answer : Result Report Refusal) → IfOk answer (λ report. report.end ≡ None) → IfErr answer (λ refusal. IsTrue (is_free refusal)) → Told outputs answer status
+      → is_unrefused status ≡ true
+  unrefused (Ok report) well free (inl (inl replied)) = ap is_unrefused (replied.ended ∙ ap (λ end. (reply_to report.lines end).status) well)
+  unrefused (Ok report) well free (inl (inr failed)) = ap is_unrefused failed.ended
+  unrefused (Err refusal) well free (inl (inl replied)) = unrefused_free refusal (free_of refusal free) replied.ended
+  unrefused (Err refusal) well free (inl (inr failed)) = ap is_unrefused failed.ended
+  unrefused answer well free (inr (inl replied)) = ap is_unrefused replied.ended
+  unrefused answer well free (inr (inr failed)) = ap is_unrefused failed.ended
 
   refused : (refusal : Refusal) (answer : Result Report Refusal) → KeepsToWords (Some refusal) answer → Told outputs answer status → Told outputs (Err refusal) status
   refused refusal answer (inl same) (inl x) = inl (subst (λ a. Concluded outputs a status) same x)

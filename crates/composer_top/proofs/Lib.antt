@@ -1,3 +1,4 @@
 pub mod Endings
+pub mod Performed
 pub mod WholeSets
 pub mod WordsFirst

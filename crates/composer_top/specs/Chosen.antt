@@ -1,7 +1,9 @@
 -- The command that words choose.
-use Rattle.std.specs.Prelude.{ℕ, List, Result, Ok, Err}
+use Rattle.std.specs.Prelude.{◌≡◌, ℕ, List, Bool, true, false, Result, Ok, Err}
 use Rattle.composer_words.specs.Words.{command_of}
 use Rattle.composer_words.specs.declared.chosen.Chosen.{Chosen}
+use Rattle.composer_words.specs.declared.chosen.Task.{Task}
+use Rattle.composer_words.specs.declared.chosen.Task.TheVariants as tasks
 use Rattle.composer_words.specs.declared.fault.WordsFault.{WordsFault}
 use Rattle.composer_words.specs.declared.fault.WordsFault.TheVariants as faults
 use Rattle.run_answers.specs.declared.refusal.Refusal.{Refusal}
@@ -17,3 +19,26 @@ or_refused (Err fault) = Err (refusal_of_words fault)
 
 abbrev pub chosen_in : List (List ℕ) → Result Chosen Refusal
 chosen_in words = or_refused (command_of words)
+
+-- A command that changes nothing: all but `recover`. One that is not built yet is refused.
+abbrev pub is_reading : Task → Bool
+is_reading (tasks.Lookup word) = true
+is_reading tasks.Files = true
+is_reading (tasks.Install ways) = true
+is_reading (tasks.Update ways) = true
+is_reading (tasks.DumpAutoload ways) = true
+is_reading tasks.Check = true
+is_reading tasks.Recover = false
+is_reading (tasks.Demo number) = true
+
+abbrev pub chooses_reading : Result Chosen Refusal → Bool
+chooses_reading (Ok chosen) = is_reading chosen.task
+chooses_reading (Err refusal) = true
+
+-- The words choose a command that changes nothing, or none.
+abbrev pub only_reads : List (List ℕ) → Bool
+only_reads words = chooses_reading (chosen_in words)
+
+-- The words choose to recover this project.
+abbrev pub ChooseRecovery : List (List ℕ) → List (List ℕ) → Type 0
+ChooseRecovery words project = chosen_in words ≡ Ok (record { project = project; task = tasks.Recover })

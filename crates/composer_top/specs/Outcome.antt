@@ -3,16 +3,17 @@ pub mod Tables
 pub mod Lookup
 pub mod Files
 pub mod Check
-use Rattle.std.specs.Prelude.{◌≡◌, ◌≢◌, ◌⊎◌, ℕ, List, [], ◌∷◌, ◌++◌, IsTrue, Option, Some, None, Result, Ok, Err, MatchResult, IfErr, IfSome}
+pub mod Recover
+use Rattle.std.specs.Prelude.{◌≡◌, ◌≢◌, ◌⊎◌, ℕ, nat_eq, List, [], ◌∷◌, ◌++◌, Bool, ◌||◌, IsTrue, Option, Some, None, Result, Ok, Err, MatchResult, IfErr, IfSome}
 use Rattle.path_name.specs.Given.{◌>>=◌}
 use Rattle.path_name.specs.Paths.{path_text}
 use Rattle.tree_dev.specs.Trees.{FileTree}
-use Rattle.tree_dev.specs.Device.{Rose}
+use Rattle.tree_dev.specs.Device.{Meaning, OnlyRead, Rose}
 use Rattle.tree_dev.specs.Sinks.{Taken, Takes, TakesPart}
 use Rattle.composer_words.specs.declared.chosen.Chosen.{Chosen}
 use Rattle.composer_words.specs.declared.chosen.Task.{Task}
 use Rattle.composer_words.specs.declared.chosen.Task.TheVariants as tasks
-use Rattle.run_answers.specs.Faults.{is_free, is_of_tree}
+use Rattle.run_answers.specs.Faults.{is_device_fault, is_of_tree}
 use Rattle.run_answers.specs.Messages.{error_line}
 use Rattle.run_answers.specs.Statuses.{status_of}
 use Rattle.run_answers.specs.declared.refusal.Refusal.{Refusal}
@@ -21,6 +22,7 @@ use Rattle.composer_top.specs.Chosen.{chosen_in}
 use Rattle.composer_top.specs.Outcome.Lookup.{named, lookup_outcome}
 use Rattle.composer_top.specs.Outcome.Files.{files_outcome}
 use Rattle.composer_top.specs.Outcome.Check.{check_outcome}
+use Rattle.composer_top.specs.Outcome.Recover.{IsRecovery, Recovery}
 use Rattle.composer_top.specs.declared.report.Report.{Report}
 
 -- ---- the outcome
@@ -32,20 +34,42 @@ path_line path = path_text path ++ 10 ∷ []
 abbrev pub plain : List ℕ → Report
 plain lines = record { lines = lines; end = None }
 
--- the outcome of a task; a command that is not built yet is Usage
-abbrev pub task_outcome : FileTree → List (List ℕ) → Task → Result Report Refusal
-task_outcome t project (tasks.Lookup word) = lookup_outcome t project word >>= λ path. Ok (plain (path_line path))
-task_outcome t project tasks.Files = files_outcome t project >>= λ lines. Ok (plain lines)
-task_outcome t project (tasks.Install ways) = Err refusals.Usage
-task_outcome t project (tasks.Update ways) = Err refusals.Usage
-task_outcome t project (tasks.DumpAutoload ways) = Err refusals.Usage
-task_outcome t project tasks.Check = check_outcome t project
-task_outcome t project tasks.Recover = Err refusals.Usage
-task_outcome t project (tasks.Demo number) = Err refusals.Usage
+-- What a task may be answered over a tree t, where it leaves what is told afterwards: the one outcome of a command that only reads, or an outcome of a recovery. A
+-- command that is not built yet is Usage.
+abbrev pub IsTaskOutcome : FileTree → Meaning → List (List ℕ) → Task → Result Report Refusal → Type 0
+IsTaskOutcome t now project (tasks.Lookup word) answer = (lookup_outcome t project word >>= λ path. Ok (plain (path_line path))) ≡ answer
+IsTaskOutcome t now project tasks.Files answer = (files_outcome t project >>= λ lines. Ok (plain lines)) ≡ answer
+IsTaskOutcome t now project (tasks.Install ways) answer = Err refusals.Usage ≡ answer
+IsTaskOutcome t now project (tasks.Update ways) answer = Err refusals.Usage ≡ answer
+IsTaskOutcome t now project (tasks.DumpAutoload ways) answer = Err refusals.Usage ≡ answer
+IsTaskOutcome t now project tasks.Check answer = check_outcome t project ≡ answer
+IsTaskOutcome t now project tasks.Recover answer = IsRecovery t now project answer
+IsTaskOutcome t now project (tasks.Demo number) answer = Err refusals.Usage ≡ answer
 
--- the outcome of the words over a tree
-unfoldable pub outcome_of : FileTree → List (List ℕ) → Result Report Refusal
-outcome_of t words = chosen_in words >>= λ chosen. task_outcome t chosen.project chosen.task
+abbrev pub IsChosenOutcome : FileTree → Meaning → Result Chosen Refusal → Result Report Refusal → Type 0
+IsChosenOutcome t now (Ok chosen) answer = IsTaskOutcome t now chosen.project chosen.task answer
+IsChosenOutcome t now (Err refusal) answer = Err refusal ≡ answer
+
+-- what the words may be answered over a tree t, and with what they leave
+abbrev pub IsOutcome : FileTree → Meaning → List (List ℕ) → Result Report Refusal → Type 0
+IsOutcome t now words answer = IsChosenOutcome t now (chosen_in words) answer
+
+-- ---- what becomes of the tree
+
+-- What a task does, by its answer: it only reads, unless it recovers.
+abbrev pub Performs : List (List ℕ) → Task → Meaning → Meaning → Result Report Refusal → Type 0
+Performs project (tasks.Lookup word) before now answer = OnlyRead before now (is_device_fault answer)
+Performs project tasks.Files before now answer = OnlyRead before now (is_device_fault answer)
+Performs project (tasks.Install ways) before now answer = OnlyRead before now (is_device_fault answer)
+Performs project (tasks.Update ways) before now answer = OnlyRead before now (is_device_fault answer)
+Performs project (tasks.DumpAutoload ways) before now answer = OnlyRead before now (is_device_fault answer)
+Performs project tasks.Check before now answer = OnlyRead before now (is_device_fault answer)
+Performs project tasks.Recover before now answer = Recovery project before now answer
+Performs project (tasks.Demo number) before now answer = OnlyRead before now (is_device_fault answer)
+
+abbrev pub PerformsChosen : Result Chosen Refusal → Meaning → Meaning → Result Report Refusal → Type 0
+PerformsChosen (Ok chosen) before now answer = Performs chosen.project chosen.task before now answer
+PerformsChosen (Err refusal) before now answer = OnlyRead before now (is_device_fault answer)
 
 -- ---- what the words alone refuse
 
@@ -60,7 +84,7 @@ task_refusal (tasks.Install ways) = Some refusals.Usage
 task_refusal (tasks.Update ways) = Some refusals.Usage
 task_refusal (tasks.DumpAutoload ways) = Some refusals.Usage
 task_refusal tasks.Check = None
-task_refusal tasks.Recover = Some refusals.Usage
+task_refusal tasks.Recover = None
 task_refusal (tasks.Demo number) = Some refusals.Usage
 
 abbrev pub refusal_of_choice : Result Chosen Refusal → Option Refusal
@@ -112,9 +136,10 @@ pub record Replied (outputs : Outputs) (reply : Reply) (status : ℕ) : Type 0 w
   pub lines : Takes outputs.out_before outputs.out_now reply.out
   pub errors : TakesLine outputs.errs_before outputs.errs_now reply.errs
 
--- The output failed: it took a prefix of the reply's lines.
+-- The output failed: it took a prefix of the reply's lines, of which there are some.
 pub record OutputFailed (outputs : Outputs) (reply : Reply) (status : ℕ) : Type 0 where
   pub ended : status ≡ status_of refusals.SinkFault
+  pub some : reply.out ≢ []
   pub rose : Rose outputs.out_before.faults outputs.out_now.faults
   pub lines : TakesPart outputs.out_before outputs.out_now reply.out
   pub errors : TakesLine outputs.errs_before outputs.errs_now (error_line refusals.SinkFault)
@@ -126,10 +151,19 @@ Ended outputs reply status = Replied outputs reply status ⊎ OutputFailed outpu
 abbrev pub Concluded : Outputs → Result Report Refusal → ℕ → Type 0
 Concluded outputs answer status = Ended outputs (reply_of answer) status
 
--- A run ends with the reply to its outcome, or by a fault of its tree, or for want of memory.
-abbrev pub Ends : Outputs → Result Report Refusal → ℕ → Type 0
-Ends outputs outcome status =
-    Concluded outputs outcome status ⊎ (Concluded outputs (Err refusals.DeviceFault) status ⊎ Concluded outputs (Err refusals.OutOfMemory) status)
+-- A run ends with the reply to an outcome of this kind, or by a fault of its tree, or for want of memory.
+abbrev pub Ends : Outputs → (Result Report Refusal → Type 0) → ℕ → Type 0
+Ends outputs IsWanted status =
+    ((outcome : Result Report Refusal) × IsWanted outcome × Concluded outputs outcome status)
+    ⊎ (Concluded outputs (Err refusals.DeviceFault) status ⊎ Concluded outputs (Err refusals.OutOfMemory) status)
+
+-- The work was done, whether its lines were taken or not.
+abbrev pub is_done : ℕ → Bool
+is_done status = nat_eq status 0 || nat_eq status 9
+
+-- Nothing was refused: the work was done, or the device failed, or memory ran out.
+abbrev pub is_unrefused : ℕ → Bool
+is_unrefused status = is_done status || nat_eq status 8 || nat_eq status 10
 
 -- A run ends with the reply to some answer.
 abbrev pub EndsWithAnswer : Outputs → ℕ → Type 0

@@ -1,8 +1,9 @@
 //! The command that the words choose.
 
-ghost use Rattle.std.specs.Prelude.{◌≡◌, map};
+ghost use Rattle.std.specs.Prelude.{◌≡◌, false, map};
 ghost use Rattle.std.specs.String.{string_bytes};
 ghost use Rattle.path_name.specs.Given.{GivesValue};
+ghost use Rattle.run_answers.specs.Faults.{is_device_fault};
 ghost use Rattle.run_answers.specs.declared.refusal.Refusal.TheVariants.{OutOfMemory};
 ghost use Rattle.composer_top.specs.Chosen.{refusal_of_words, chosen_in};
 
@@ -12,7 +13,8 @@ use std::alloc::Global;
 
 /// The command that the words choose. Its refusals are `Usage`, exactly where the words are none, and want of memory.
 pub fn chosen(alloc: Global, words: &[String]) -> Result<Chosen, Refusal>
-    ensures { GivesValue OutOfMemory (chosen_in (map string_bytes words.now)) result }
+    ensures value { GivesValue OutOfMemory (chosen_in (map string_bytes words.now)) result }
+    ensures no_device { is_device_fault result ≡ false }
 {
     match command(alloc, words) {
         Ok(chosen) => Ok(chosen),

@@ -1,6 +1,6 @@
 //! How a run ends: its lines and its status.
 
-ghost use Rattle.std.specs.Prelude.{◌≡◌, ◌⊎◌, [], ℕ, Err, OnOk, OnErr, IfOk, IfSome};
+ghost use Rattle.std.specs.Prelude.{◌≡◌, ◌≢◌, ◌⊎◌, [], ℕ, Err, OnOk, OnErr, IfOk, IfSome};
 ghost use Rattle.tree_dev.specs.Device.{Rose};
 ghost use Rattle.tree_dev.specs.Sinks.{Takes, TakesPart};
 ghost use Rattle.run_answers.specs.Messages.{error_line};
@@ -27,6 +27,7 @@ fn put_lines<S: Sink>(lines: &[u8], sink: &mut S) -> Result<(), Failed>
     ensures whole { OnOk result (Takes (S.meaning sink.old) (S.meaning sink.new) lines.now) }
     ensures part { OnErr result (TakesPart (S.meaning sink.old) (S.meaning sink.new) lines.now) }
     ensures cause { OnErr result (Rose (S.meaning sink.old).faults (S.meaning sink.new).faults) }
+    ensures some { OnErr result (lines.now ≢ []) }
 {
     if lines.is_empty() {
         return Ok(());

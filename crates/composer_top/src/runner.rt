@@ -1,11 +1,18 @@
 //! A whole run: from the words to the status.
 
-ghost use Rattle.std.specs.Prelude.{◌≡◌, map, nat_eq, None, IfOk};
+ghost use Rattle.std.specs.Prelude.{◌≡◌, ◌⊎◌, List, ℕ, true, false, map, nat_eq, None, IfOk, IfErr, IsTrue};
 ghost use Rattle.std.specs.String.{string_bytes};
+ghost use Rattle.tree_dev.specs.Trees.{FileTree};
 ghost use Rattle.tree_dev.specs.Device.{OnlyRead, OfTold, Rose};
-ghost use Rattle.run_answers.specs.Faults.{is_device_fault};
-ghost use Rattle.run_answers.specs.Steps.{Tells};
-ghost use Rattle.composer_top.specs.Outcome.{KeepsToWords, outcome_of, task_outcome, task_refusal, words_refusal, path_line, Ends, EndsByWords, EndsWithAnswer, IsFinding};
+ghost use Rattle.tree_dev.specs.Steady.{EachImage};
+ghost use Rattle.install_world.specs.InFlight.{Files, IsInFlight};
+ghost use Rattle.install_world.specs.Recovery.{CanRecover};
+ghost use Rattle.install_commands.specs.Recovering.{Recovers};
+ghost use Rattle.run_answers.specs.Faults.{is_of_tree};
+ghost use Rattle.run_answers.specs.Steps.{TellsOne};
+ghost use Rattle.composer_top.specs.Chosen.{ChooseRecovery, chosen_in, only_reads};
+ghost use Rattle.composer_top.specs.Outcome.{KeepsToWords, IsOutcome, IsTaskOutcome, Performs, PerformsChosen, task_refusal, words_refusal, path_line, Ends, EndsByWords, EndsWithAnswer, IsFinding, is_done, is_unrefused};
+ghost use Rattle.composer_top.specs.Outcome.Recover.{IsRecovery, Recovery};
 
 use crate::check::check;
 use crate::chosen::chosen;
@@ -13,16 +20,17 @@ use crate::files::files;
 use crate::lookup::lookup;
 use crate::report::{Report, conclude};
 use composer_words::Task;
+use install_commands::recover;
 use path_name::{Path, Text};
 use run_answers::Refusal;
 use std::alloc::{AllocError, Global};
 use tree_dev::{Sink, Tree};
 
 /// The answer to the words over a tree.
-#[tactic(auto, unfolding(crate::specs::Outcome::outcome_of, crate::specs::Outcome::words_refusal))]
+#[tactic(auto, unfolding(crate::specs::Outcome::words_refusal))]
 fn perform<T: Tree>(alloc: Global, words: &[String], tree: &mut T) -> Result<Report, Refusal>
-    ensures told { OfTold (T.meaning tree.old) (λ t. Tells (λ report. report) (outcome_of t (map string_bytes words.now)) result) }
-    ensures only_read { OnlyRead (T.meaning tree.old) (T.meaning tree.new) (is_device_fault result) }
+    ensures told { OfTold (T.meaning tree.old) (λ t. TellsOne (λ report. report) (IsOutcome t (T.meaning tree.new) (map string_bytes words.now)) result) }
+    ensures performs { PerformsChosen (chosen_in (map string_bytes words.now)) (T.meaning tree.old) (T.meaning tree.new) result }
     ensures words { KeepsToWords (words_refusal (map string_bytes words.now)) result }
     ensures end { IfOk result IsFinding }
 {
@@ -37,8 +45,8 @@ fn perform_task<T: Tree>(
     task: &Task,
     tree: &mut T,
 ) -> Result<Report, Refusal>
-    ensures told { OfTold (T.meaning tree.old) (λ t. Tells (λ report. report) (task_outcome t project.now task.now) result) }
-    ensures only_read { OnlyRead (T.meaning tree.old) (T.meaning tree.new) (is_device_fault result) }
+    ensures told { OfTold (T.meaning tree.old) (λ t. TellsOne (λ report. report) (IsTaskOutcome t (T.meaning tree.new) project.now task.now) result) }
+    ensures performs { Performs project.now task.now (T.meaning tree.old) (T.meaning tree.new) result }
     ensures words { KeepsToWords (task_refusal task.now) result }
     ensures end { IfOk result IsFinding }
 {
@@ -47,7 +55,21 @@ fn perform_task<T: Tree>(
         Task::Files => Ok(plain(files(alloc, project, tree)?)),
         Task::Install(_) | Task::Update(_) | Task::DumpAutoload(_) => Err(Refusal::Usage),
         Task::Check => check(alloc, project, tree),
-        Task::Recover | Task::Demo(_) => Err(Refusal::Usage),
+        Task::Recover => recovered(alloc, project, tree),
+        Task::Demo(_) => Err(Refusal::Usage),
+    }
+}
+
+/// The answer of a recovery.
+fn recovered<T: Tree>(alloc: Global, project: &Path, tree: &mut T) -> Result<Report, Refusal>
+    ensures told { OfTold (T.meaning tree.old) (λ t. TellsOne (λ report. report) (IsRecovery t (T.meaning tree.new) project.now) result) }
+    ensures recovery { Recovery project.now (T.meaning tree.old) (T.meaning tree.new) result }
+    ensures causes { IfErr result (λ refusal. IsTrue (is_of_tree refusal)) }
+    ensures end { IfOk result IsFinding }
+{
+    match recover(alloc, project, tree) {
+        Ok(lines) => Ok(plain(lines)),
+        Err(refusal) => Err(refusal),
     }
 }
 
@@ -68,11 +90,12 @@ fn path_line(alloc: Global, path: &Path) -> Result<Text, AllocError>
     Ok(Text::of(line))
 }
 
-/// Runs a command. `words` are the words behind the program's name, read as clap reads them. `lookup NAME`, `files`
-/// and `check` are the commands that are built; `-d DIR` names the project's folder, which is the tree's root without
-/// it. The answer is lines on `out`, or a refusal's line `error: TEXT` on `errs`, and both where `check` finds a broken
-/// rule; the status is 0, or that of the refusal, as `run_answers` has them. A fault of `errs` changes no status. The
-/// tree is only read.
+/// Runs a command. `words` are the words behind the program's name, read as clap reads them. `lookup NAME`, `files`,
+/// `check` and `recover` are the commands that are built; `-d DIR` names the project's folder, which is the tree's root
+/// without it. The answer is lines on `out`, or a refusal's line `error: TEXT` on `errs`, and both where `check` finds a
+/// broken rule; the status is 0, or that of the refusal, as `run_answers` has them. A fault of `errs` changes no status,
+/// and one of `out` comes when the work is done. `recover` ends an install that was stopped, and is to be run only while no
+/// install runs; by all other commands the tree is only read.
 pub fn run<T: Tree, S: Sink, E: Sink>(
     alloc: Global,
     words: &[String],
@@ -80,10 +103,10 @@ pub fn run<T: Tree, S: Sink, E: Sink>(
     out: &mut S,
     errs: &mut E,
 ) -> u8
-    // Over a tree that tells, it ends with the outcome of the command.
+    // Over a tree that tells, it ends with an outcome of the command.
     ensures answer { OfTold (T.meaning tree.old) (λ t. Ends
         (record { out_before = S.meaning out.old; out_now = S.meaning out.new; errs_before = E.meaning errs.old; errs_now = E.meaning errs.new })
-        (outcome_of t (map string_bytes words.now)) result) }
+        (IsOutcome t (T.meaning tree.new) (map string_bytes words.now)) result) }
     // Over every tree, it ends with the lines and the status of some answer.
     ensures ended { EndsWithAnswer
         (record { out_before = S.meaning out.old; out_now = S.meaning out.new; errs_before = E.meaning errs.old; errs_now = E.meaning errs.new }) result }
@@ -91,7 +114,17 @@ pub fn run<T: Tree, S: Sink, E: Sink>(
     ensures words { EndsByWords
         (record { out_before = S.meaning out.old; out_now = S.meaning out.new; errs_before = E.meaning errs.old; errs_now = E.meaning errs.new })
         (words_refusal (map string_bytes words.now)) result }
-    ensures only_read { OnlyRead (T.meaning tree.old) (T.meaning tree.new) (nat_eq result 8) }
+    // A command that only reads, and words that are none, change nothing.
+    ensures only_read { only_reads (map string_bytes words.now) ≡ true → OnlyRead (T.meaning tree.old) (T.meaning tree.new) (nat_eq result 8) }
+    // A recovery keeps each moment in flight, and where it is done the project is the finished one.
+    ensures recovers { (project : List (List ℕ)) → ChooseRecovery (map string_bytes words.now) project
+        → Recovers project (T.meaning tree.old) (T.meaning tree.new) (is_done result) }
+    // Of what an install leaves recovery refuses nothing.
+    ensures fits { (project : List (List ℕ)) → ChooseRecovery (map string_bytes words.now) project → OfTold (T.meaning tree.old) (λ t. (surroundings : FileTree) (old new : Files)
+        → EachImage (T.meaning tree.old) (IsInFlight project surroundings old new) → CanRecover project t → IsTrue (is_unrefused result)) }
+    // A journal that is bad or too long is looked at by recovery, and nothing else is done.
+    ensures unchanged { (project : List (List ℕ)) → ChooseRecovery (map string_bytes words.now) project → (result ≡ 11) ⊎ (result ≡ 12)
+        → OnlyRead (T.meaning tree.old) (T.meaning tree.new) false }
     ensures device { result ≡ 8 → Rose (T.meaning tree.old).faults (T.meaning tree.new).faults }
     ensures output { result ≡ 9 → Rose (S.meaning out.old).faults (S.meaning out.new).faults }
 {

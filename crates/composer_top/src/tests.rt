@@ -1,3 +1,4 @@
+mod journals;
 mod lock_refusals;
 mod locks;
 mod of_composer;
@@ -305,7 +306,8 @@ fn word_refusals(alloc: Global) -> Result<Vec<Row>, Fail> {
     rows.push(refused(&ALL, "lookup App\\Home App\\Home", 2, USAGE))?;
     rows.push(refused(&ALL, "-d .. files", 2, USAGE))?;
     rows.push(refused(&PENDING, "install", 2, USAGE))?;
-    rows.push(refused(&PENDING, "recover", 2, USAGE))?;
+    rows.push(refused(&PENDING, "demo 1", 2, USAGE))?;
+    rows.push(refused(&PENDING, "recover now", 2, USAGE))?;
     rows.push(refused(&ALL, "lookup App\\1", 2, BAD_NAME))?;
     rows.push(refused(&ALL, "lookup App\\..\\X", 2, BAD_NAME))?;
     rows.push(refused(&ALL, "lookup App\\", 2, BAD_NAME))?;

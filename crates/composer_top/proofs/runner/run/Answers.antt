@@ -1,13 +1,16 @@
 use Rattle.std.proofs.Common.{map}
 use Rattle.std.specs.String.{string_bytes}
 use Rattle.std.proofs.lemmas.Bool.{eqb-true}
-use Rattle.composer_top.specs.Outcome.{words_refusal}
-use Rattle.composer_top.proofs.Endings.{told_ends, some_answer, source, device_fault, read_as, output_fault, ends_by_words}
+use Rattle.composer_top.specs.Chosen.{chosen_in}
+use Rattle.composer_top.specs.Outcome.{IsOutcome, words_refusal}
+use Rattle.composer_top.proofs.Endings.{device_fault, done_is_answered, ends_by_words, output_fault, read_as, some_answer, source, told_ends, unread, unrefused}
+use Rattle.composer_top.proofs.Performed.{only_read, recovers_as, recovery, rose}
 use Rattle.composer_top.proofs.runner.run.Goals as goal
 use Rattle.composer_top.proofs.runner.run.Goals.{After-conclude}
 
 pub returns-clause-answer : goal.returns-clause-answer
-returns-clause-answer g c = λ t told. told_ends _ _ c.perform-answer.result _ (c.perform-answer.ensures.told t told) c.conclude.ensures
+returns-clause-answer g c = λ t told.
+    told_ends _ _ c.perform-answer.result (IsOutcome t (g.T.Tree.meaning c.perform-answer.new.tree) (map string_bytes c.args.words.now)) (c.perform-answer.ensures.told t told) c.conclude.ensures
 
 pub returns-clause-ended : goal.returns-clause-ended
 returns-clause-ended g c = some_answer _ _ c.perform-answer.result c.conclude.ensures
@@ -16,10 +19,30 @@ pub returns-clause-words : goal.returns-clause-words
 returns-clause-words g c = ends_by_words _ _ (words_refusal (map string_bytes c.args.words.now)) c.perform-answer.result c.perform-answer.ensures.end c.perform-answer.ensures.words c.conclude.ensures
 
 pub returns-clause-only_read : goal.returns-clause-only_read
-returns-clause-only_read g c = read_as c.perform-answer.ensures.only_read (λ t. device_fault _ _ c.perform-answer.result (source _ _ c.perform-answer.result c.perform-answer.ensures.end c.conclude.ensures) (eqb-true c.conclude.result 8 t))
+returns-clause-only_read g c = λ reads.
+    read_as (only_read _ _ c.perform-answer.result (chosen_in (map string_bytes c.args.words.now)) reads c.perform-answer.ensures.performs)
+    (λ t. device_fault _ _ c.perform-answer.result (source _ _ c.perform-answer.result c.perform-answer.ensures.end c.conclude.ensures) (eqb-true c.conclude.result 8 t))
+
+pub returns-clause-recovers : goal.returns-clause-recovers
+returns-clause-recovers g c = λ project chooses.
+    let did = recovery _ _ c.perform-answer.result (map string_bytes c.args.words.now) project chooses c.perform-answer.ensures.performs in
+    recovers_as project _ _ did.recovers
+    (λ done. done_is_answered _ _ (map string_bytes c.args.words.now) c.perform-answer.result c.perform-answer.ensures.words (source _ _ c.perform-answer.result c.perform-answer.ensures.end c.conclude.ensures) done)
+
+pub returns-clause-fits : goal.returns-clause-fits
+returns-clause-fits g c = λ project chooses t told surroundings old new each can.
+    let did = recovery _ _ c.perform-answer.result (map string_bytes c.args.words.now) project chooses c.perform-answer.ensures.performs in
+    unrefused _ _ c.perform-answer.result did.ends_well (did.fits t told surroundings old new each can) c.conclude.ensures
+
+pub returns-clause-unchanged : goal.returns-clause-unchanged
+returns-clause-unchanged g c = λ project chooses ended.
+    let did = recovery _ _ c.perform-answer.result (map string_bytes c.args.words.now) project chooses c.perform-answer.ensures.performs in
+    did.unchanged (unread _ _ c.perform-answer.result (source _ _ c.perform-answer.result c.perform-answer.ensures.end c.conclude.ensures) ended)
 
 pub returns-clause-device : goal.returns-clause-device
-returns-clause-device g c = λ eight. c.perform-answer.ensures.only_read.cause (device_fault _ _ c.perform-answer.result (source _ _ c.perform-answer.result c.perform-answer.ensures.end c.conclude.ensures) eight)
+returns-clause-device g c = λ eight.
+    rose _ _ c.perform-answer.result (chosen_in (map string_bytes c.args.words.now)) c.perform-answer.ensures.performs
+    (device_fault _ _ c.perform-answer.result (source _ _ c.perform-answer.result c.perform-answer.ensures.end c.conclude.ensures) eight)
 
 pub returns-clause-output : goal.returns-clause-output
 returns-clause-output g c = λ nine. output_fault _ _ (map string_bytes c.args.words.now) c.perform-answer.result c.perform-answer.ensures.words (source _ _ c.perform-answer.result c.perform-answer.ensures.end c.conclude.ensures) nine
