@@ -23,12 +23,11 @@ recovery_line did.Removed = codes "removed" ++ 10 ∷ []
 recovery_line did.Finished = codes "finished" ++ 10 ∷ []
 
 -- With what recovery is refused over a tree t, where it leaves what is told afterwards: the journal is bad at that place, or it
--- is too long; another kind of entry stands where a folder or a file is needed; or what was shown is no longer there.
+-- is too long; or another kind of entry stands where a folder or a file is needed. Nothing vanishes.
 abbrev pub IsRecoveryRefused : List (List ℕ) → FileTree → Meaning → Refusal → Type 0
 IsRecoveryRefused project t now (refusals.BadJournal place) = HasBadJournal project t place
 IsRecoveryRefused project t now (refusals.OtherEntry path) = OfTold now (IsOtherEntry project path)
 IsRecoveryRefused project t now (refusals.Limit limit) = (limit ≡ FileBytes (journal_path project)) × IsLong (journal_path project) t
-IsRecoveryRefused project t now (refusals.Vanished place) = Unit {0}
 IsRecoveryRefused project t now _ = ⊥
 
 -- What is answered over a tree: the line for what is to be done there, or a refusal.

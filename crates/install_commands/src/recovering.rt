@@ -41,8 +41,8 @@ fn text_of(alloc: Global, recovered: Recovered) -> Result<Text, AllocError>
 /// stopped and run again at any moment, and is run only while no install runs. `BadJournal`: `.install/journal` is none, with
 /// the place, and nothing was changed. `OtherEntry`: `.install` is no folder, the journal no file, or a folder that a part
 /// needs is there as another kind; the parts before that one are done then. `Limit`: the journal passes `FILE_BYTES`, and nothing
-/// was changed. `Vanished`: what earlier calls showed is no longer there. Of what an install of this program leaves nothing is refused. `DeviceFault` comes only where the device's count of
-/// faults rose.
+/// was changed. `Vanished`: what earlier calls showed is no longer there; never over a tree that tells. Of what an install of this
+/// program leaves nothing is refused. `DeviceFault` comes only where the device's count of faults rose.
 pub fn recover<T: Tree>(alloc: Global, project: &Path, tree: &mut T) -> Result<Text, Refusal>
     ensures told { OfTold (T.meaning tree.old) (λ t. TellsOne (λ lines. lines) (IsRecoveryAnswer project.now t (T.meaning tree.new)) result) }
     ensures recovers { Recovers project.now (T.meaning tree.old) (T.meaning tree.new) (is_ok result) }
