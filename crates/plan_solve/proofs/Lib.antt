@@ -1,4 +1,5 @@
 pub mod Choices
+pub mod Needs
 pub mod Queue
 pub mod Searching
 pub mod Work

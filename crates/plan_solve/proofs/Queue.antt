@@ -22,7 +22,7 @@ use Rattle.plan_rules.proofs.Beside.{chosen_are}
 use Rattle.plan_rules.proofs.Marked.{one_marked}
 use Rattle.plan_rules.proofs.Plans.{has_in}
 use Rattle.plan_solve.specs.declared.members.Members.{Members}
-use Rattle.plan_solve.specs.Search.{AreMembers, NoneWaits, first_place, waits_by, requires_of}
+use Rattle.plan_solve.specs.Search.{AreMembers, NoneWaits, first_place, waits_by, requires_of, links_of}
 
 -- ---- one more member
 
@@ -210,7 +210,7 @@ module _ {X : Type 0} (passes : X → Bool) where
 
 -- the requirements behind a list, as they stand with its members
 abbrev pub listed : Members → List Link
-listed members = map (λ link. link.now) members.queue.items
+listed members = links_of members.queue.items
 
 -- a requirement that waits at a place, behind others that don't
 pub record WaitsAt (pool : Pool) (before : List ℕ) (place : ℕ) : Type 0 where

@@ -1,6 +1,9 @@
 -- What a search for the plan has found out on its way: the choices that it made, one requirement after the other, and the
 -- alternatives that no valid set has beside the choices before them.
-use Rattle.std.specs.Prelude.{◌≡◌, ℕ, zero, suc, ◌+◌, ◌-◌, ◌*◌, ◌<◌, List, [], ◌∷◌, ◌++◌, length, map, Bool, false, not, ◌&&◌, ◌||◌, Option, Some, None, ⊤, if◌then◌else◌}
+use Rattle.std.specs.Prelude.{◌≡◌, ℕ, zero, suc, ◌+◌, ◌-◌, ◌*◌, ◌<◌, List, [], ◌∷◌, ◌++◌, length, map, All, IfSome, Bool, false, not, ◌&&◌, ◌||◌, Option, Some, None, ⊤, if◌then◌else◌}
+use Rattle.std.specs.Global.{Vec}
+use Rattle.std.specs.BTreeMap.{BTreeMap, get}
+use Rattle.std.specs.Ordering.{nat_cmp}
 use Rattle.std.specs.List.{slice_get}
 use Rattle.std.specs.Option.{option_map_or}
 use Rattle.manifest_read.specs.declared.types.Link.{Link}
@@ -14,6 +17,7 @@ use Rattle.plan_rules.specs.Offers.{Offered, is_met, IsIndexOf}
 use Rattle.plan_rules.specs.Rivals.{is_marked, any_marked, AreRivalsOf}
 use Rattle.plan_solve.specs.declared.context.Context.{Context}
 use Rattle.plan_solve.specs.declared.members.Members.{Members}
+use Rattle.plan_solve.specs.declared.members.Need.{Need}
 use Rattle.plan_solve.specs.declared.search.Pending.{Pending}
 use Rattle.plan_solve.specs.declared.search.Choice.{Choice}
 use Rattle.plan_solve.specs.declared.search.Search.{Search}
@@ -49,10 +53,28 @@ waits_by pool marks need = is_on_package need && not (met_by pool marks need)
 abbrev pub requires_of : Pool → ℕ → List Link
 requires_of pool number = option_map_or (λ party. party.require) (package_at pool number) []
 
+-- what is required
+abbrev pub links_of : List Need → List Link
+links_of needs = map (λ need. need.link.now) needs
+
+-- what was put in order for a requirement are its alternatives
+abbrev pub IsNeed : Pool → Need → Type 0
+IsNeed pool need = IfSome need.sorted (λ list. AreAlternatives pool need.link.now list.items)
+
+-- what the candidate of a number requires
+abbrev pub AreNeeds : Pool → ℕ → Vec Need → Type 0
+AreNeeds pool number needs = (links_of needs.items ≡ requires_of pool number) × All (IsNeed pool) needs.items
+
+-- for each number what its candidate requires, where anything was set aside for it
+abbrev pub AreAside : Pool → BTreeMap ℕ (Vec Need) → Type 0
+AreAside pool aside = (number : ℕ) → IfSome (get nat_cmp aside number) (AreNeeds pool number)
+
 -- of each candidate whether it is in a list, and what is required with the list
 pub record AreMembers (pool : Pool) (before : List ℕ) (members : Members) : Type 0 where
   pub marks : members.marks.items ≡ set_of (length pool.candidates) before
-  pub queue : map (λ link. link.now) members.queue.items ≡ queue pool before
+  pub queue : links_of members.queue.items ≡ queue pool before
+  pub needs : All (IsNeed pool) members.queue.items
+  pub aside : AreAside pool members.aside
 
 -- the place of the first that passes, of those that are numbered from a number on
 abbrev pub first_place : {X : Type 0} → (X → Bool) → ℕ → List X → Option ℕ

@@ -122,8 +122,7 @@ impl<'a> Context<'a> {
     /// The candidates that meet a requirement, the preferred ones first.
     pub(crate) fn alternatives(&self, alloc: Global, need: &Link) -> Result<Vec<u32>, AllocError>
         requires { IsRight self.now }
-        ensures all { IfOk result (λ list. AreAlternatives self.now.pool.now need.now list.items) }
-        ensures few { IfOk result (λ list. length list.items ≤ length self.now.pool.now.candidates) }
+        ensures { IfOk result (λ list. AreAlternatives self.now.pool.now need.now list.items) }
     {
         alternatives(alloc, self.pool, &self.index, need)
     }

@@ -18,7 +18,7 @@ use std::mem;
 pub(crate) struct Pending {
     /// Its place in the queue.
     pub(crate) place: usize,
-    /// Its alternatives, the preferred ones first.
+    /// Its alternatives, the preferred ones first. They are taken from the requirement, and given back with the choice.
     pub(crate) alternatives: Vec<u32>,
     /// How many of them no valid set has beside those choices.
     pub(crate) passed: usize,
@@ -84,21 +84,23 @@ impl<'a> Search<'a> {
         self.pending.pass();
     }
 
-    /// Takes the last choice back, beside which every alternative was passed, and says whether there was one.
-    pub(crate) fn take_back(&mut self, pool: &Pool) -> bool
+    /// Takes the last choice back, beside which every alternative was passed, and says whether there was one. The
+    /// alternatives that were passed stay in order for a later choice.
+    pub(crate) fn take_back(&mut self, pool: &Pool) -> Result<bool, AllocError>
         requires searched { IsSearch pool.now self.old }
         requires all { length self.old.pending.alternatives.items ≤ self.old.pending.passed }
-        ensures searched { result ≡ true → IsSearch pool.now self.new }
-        ensures less { result ≡ true → work pool.now self.new.choices.items self.new.pending < work pool.now self.old.choices.items self.old.pending }
-        ensures none { result ≡ false → HasNoPlan pool.now }
+        ensures searched { IfOk result (λ more. more ≡ true → IsSearch pool.now self.new) }
+        ensures less { IfOk result (λ more. more ≡ true → work pool.now self.new.choices.items self.new.pending < work pool.now self.old.choices.items self.old.pending) }
+        ensures none { IfOk result (λ more. more ≡ false → HasNoPlan pool.now) }
     {
         let Some(mut last) = self.choices.pop() else {
-            return false;
+            return Ok(false);
         };
-        self.members.take_back(pool, last.member);
         last.of.pass();
-        self.pending = last.of;
-        true
+        let passed = mem::replace(&mut self.pending, last.of);
+        self.members.keep(pool, passed.place, passed.alternatives);
+        self.members.take_back(pool, last.member)?;
+        Ok(true)
     }
 
     /// Chooses the next alternative, and says whether something is unmet behind it. Where nothing is, it is the last

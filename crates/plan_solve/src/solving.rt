@@ -54,7 +54,7 @@ fn search<'a>(
 {
     loop {
         let Some(member) = search.pending.next() else {
-            if !search.take_back(context.pool) {
+            if !search.take_back(context.pool)? {
                 return Ok(Answer::NoPlan);
             }
             continue;
@@ -77,7 +77,7 @@ fn search<'a>(
 ///
 /// Going back undoes one choice at a time, so that the time of a pool whose packages exclude one another can grow with
 /// every way to choose; where no choice has to be taken back, it grows with the requirements and, for each, with the
-/// packages that stand for its name.
+/// packages that stand for its name. The alternatives of a requirement are put in order once, and kept.
 pub fn solve(alloc: Global, pool: &Pool) -> Result<Answer, AllocError>
     ensures { IfOk result (Solves pool.now) }
 {
@@ -85,7 +85,7 @@ pub fn solve(alloc: Global, pool: &Pool) -> Result<Answer, AllocError>
     if !context.root_fits() {
         return Ok(Answer::NoPlan);
     }
-    let members = Members::none(alloc, pool)?;
+    let mut members = Members::none(alloc, pool)?;
     let Some(pending) = members.pending(alloc, &context, 0)? else {
         let plan = selection(alloc, &[], None)?;
         return Ok(Answer::Plan(plan));

@@ -15,5 +15,5 @@ returns-in_default c =
     let same : its ≡ pool = c.in_ok-context.ensures.pool in
     let members = subst (λ it. AreMembers it [] c.in_ok-members.members) (sym same) c.in_ok-members.ensures in
     let none = when_none (λ pending. IsPending its [] pending × (length pending.alternatives.items ≤ length its.candidates)) c.in_ok-pending.field-0 c.in_default.is
-    (c.in_ok-pending.ensures [] members (λ place link less. absurd (omega (arith, less)))) in
+    (c.in_ok-pending.ensures.next [] members (λ place link less. absurd (omega (arith, less)))) in
     subst (IsFirstChoice pool) (sym c.in_ok-plan.ensures) (subst (λ it. IsFirstChoice it []) same (root_alone its (c.root_fits.ensures.yes c.if-not-root_fits.false) none))

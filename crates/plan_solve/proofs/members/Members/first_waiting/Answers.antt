@@ -11,9 +11,9 @@ returns-then-waits-clause-first c =
     let pool = c.args.context.now.pool.now in
     let queued = c.args.self.now.queue.items in
     let place = c.loop-place.place in
-    let need = c.index.result.now.now in
-    let there : slice_get (listed c.args.self.now) place ≡ Some need = slice_get-map (λ link. link.now) queued place
-    ∙ ap (option_map (λ link. link.now)) (slice_get_read queued (length queued) place c.index.result.now (λ i. length queued) (omega (arith, c.loop-place-test.true, c.len-place-end.ensures, c.args.self.now.queue.ok.0)) c.index.ensures) in
+    let need = c.index.result.now.link.now in
+    let there : slice_get (listed c.args.self.now) place ≡ Some need = slice_get-map (λ need. need.link.now) queued place
+    ∙ ap (option_map (λ need. need.link.now)) (slice_get_read queued (length queued) place c.index.result.now (λ i. length queued) (omega (arith, c.loop-place-test.true, c.len-place-end.ensures, c.args.self.now.queue.ok.0)) c.index.ensures) in
     sym (place_here (waits_by pool c.args.self.now.marks.items) (listed c.args.self.now) place need there (ap (λ marks. waits_by pool marks need) (sym c.as_slice.ensures.value) ∙ sym c.waits.ensures ∙ c.if-waits.true))
     ∙ c.loop-place.invariant.rest
 
@@ -22,9 +22,9 @@ loop-place-preserved c =
     let pool = c.args.context.now.pool.now in
     let queued = c.args.self.now.queue.items in
     let place = c.loop-place.place in
-    let need = c.index.result.now.now in
-    let there : slice_get (listed c.args.self.now) place ≡ Some need = slice_get-map (λ link. link.now) queued place
-    ∙ ap (option_map (λ link. link.now)) (slice_get_read queued (length queued) place c.index.result.now (λ i. length queued) (omega (arith, c.loop-place-test.true, c.len-place-end.ensures, c.args.self.now.queue.ok.0)) c.index.ensures) in
+    let need = c.index.result.now.link.now in
+    let there : slice_get (listed c.args.self.now) place ≡ Some need = slice_get-map (λ need. need.link.now) queued place
+    ∙ ap (option_map (λ need. need.link.now)) (slice_get_read queued (length queued) place c.index.result.now (λ i. length queued) (omega (arith, c.loop-place-test.true, c.len-place-end.ensures, c.args.self.now.queue.ok.0)) c.index.ensures) in
     record {
       right = c.loop-place.invariant.right;
       rest = sym (place_later (waits_by pool c.args.self.now.marks.items) (listed c.args.self.now) place need there (ap (λ marks. waits_by pool marks need) (sym c.as_slice.ensures.value) ∙ sym c.waits.ensures ∙ c.if-waits.false))

@@ -16,7 +16,7 @@ returns-in_default-clause-done c false_so =
     let members = c.in_ok-put.ensures (chosen choices) c.requires.searched.members in
     let none = none_waits_more pool (chosen choices) c.args.member pending.place known.next.need known.next.there known.next.earlier in
     last_choice pool choices pending c.args.member known c.requires.found c.requires.sound
-    (when_none (λ next. IsPending pool longer next × (length next.alternatives.items ≤ length pool.candidates)) c.in_ok-next.next c.in_default.is (c.in_ok-next.ensures longer members none))
+    (when_none (λ next. IsPending pool longer next × (length next.alternatives.items ≤ length pool.candidates)) c.in_ok-next.next c.in_default.is (c.in_ok-next.ensures.next longer members none))
 
 pub returns : goal.returns
 returns c =
@@ -28,11 +28,12 @@ returns c =
     let longer = chosen choices ++ member ∷ [] in
     let members = c.in_ok-put.ensures (chosen choices) c.requires.searched.members in
     let none = none_waits_more pool (chosen choices) member pending.place known.next.need known.next.there known.next.earlier in
-    let next = when_some (first_unmet pool longer ≡ None) (λ it. IsPending pool longer it × (length it.alternatives.items ≤ length pool.candidates)) c.in_ok-next.next c.in-Some.next c.in-Some.is (c.in_ok-next.ensures longer members none) in
+    let next = when_some (first_unmet pool longer ≡ None) (λ it. IsPending pool longer it × (length it.alternatives.items ≤ length pool.candidates)) c.in_ok-next.next c.in-Some.next c.in-Some.is (c.in_ok-next.ensures.next longer members none) in
     record {
       searched = λ true_so. record {
         searched = rw (c.in_ok-push.ensures.items, c.replace-of.ensures.value, c.replace-of.ensures.after) (choose_searched pool choices pending c.in-Some.next member known c.requires.found c.requires.sound next.0);
-        members = rw (c.in_ok-push.ensures.items, c.replace-of.ensures.value) (subst (λ list. AreMembers pool list c.put.new.self) (sym (chosen_more choices (record { of = pending; member = member }))) members);
+        members = rw (c.in_ok-push.ensures.items, c.replace-of.ensures.value)
+            (subst (λ list. AreMembers pool list c.pending.new.self) (sym (chosen_more choices (record { of = pending; member = member }))) (c.in_ok-next.ensures.members longer members));
       };
       less = λ true_so. rw (c.in_ok-push.ensures.items, c.replace-of.ensures.value, c.replace-of.ensures.after) (choose_less pool choices pending c.in-Some.next member known c.requires.found next.1);
       done = λ e. absurd cc;
