@@ -185,24 +185,35 @@ fn calls(alloc: Global) -> Option<u64> {
     }
 }
 
-/// Whether work whose call of this number fails makes no call after it, and a crash then that keeps part of what is pending
-/// leaves what recovery makes the old project or the new one.
-fn fails_well(alloc: Global, call: u64, quarters: u64) -> Option<bool> {
+/// The device of work whose call of this number fails, where a fault of the device is the answer and no call came after it.
+fn failed(alloc: Global, call: u64) -> Option<Quiet> {
     let mut tree = before(alloc)?;
     tree.fail_at(alloc, &[call]).ok()?;
     let mut device = Quiet::over(tree, Lost::Nothing);
     let answer = ended(alloc, &mut device, Begun::Work)?;
-    let stopped = device.tree.calls() == call && answer == Err(Refusal::DeviceFault);
+    if device.tree.calls() == call && answer == Err(Refusal::DeviceFault) {
+        Some(device)
+    } else {
+        None
+    }
+}
+
+/// Whether recovery makes the old project or the new one of a tree, and takes the claim away.
+fn recovers(alloc: Global, tree: &mut MemoryTree) -> Option<bool> {
+    finish_install(alloc, tree, &Path::read(alloc, b"p").ok()?).ok()?;
+    let whole = all_stand(alloc, tree, &OLD)? || all_stand(alloc, tree, &NEW)?;
+    Some(whole && !is_claimed(alloc, tree)?)
+}
+
+/// Whether a crash that keeps part of what is pending once a call failed leaves what recovery makes the old project or the
+/// new one.
+fn fails_well(alloc: Global, call: u64, quarters: u64) -> Option<bool> {
+    let mut device = failed(alloc, call)?;
     let pending = device.tree.pending();
     let applied = (pending / 4).saturating_mul(quarters).min(pending);
-    device
-        .tree
-        .crash(alloc, applied, Some(b"?".as_slice()))
-        .ok()?;
-    finish_install(alloc, &mut device.tree, &Path::read(alloc, b"p").ok()?).ok()?;
-    let whole = all_stand(alloc, &mut device.tree, &OLD)?
-        || all_stand(alloc, &mut device.tree, &NEW)?;
-    Some(stopped && whole && !is_claimed(alloc, &mut device.tree)?)
+    let torn = Some(b"?".as_slice());
+    device.tree.crash(alloc, applied, torn).ok()?;
+    recovers(alloc, &mut device.tree)
 }
 
 #[test]
