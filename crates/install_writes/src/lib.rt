@@ -4,6 +4,3 @@
 mod laws;
 
 pub use laws::installs_write_few_files;
-
-#[cfg(test)]
-mod tests;
