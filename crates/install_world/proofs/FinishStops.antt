@@ -1,11 +1,8 @@
 -- Where recovery stops at a part, the parts before it are done, and it and those behind it are not begun.
-use Rattle.std.proofs.Common.{◌≡◌, ◌≢◌, ℕ, ◌+◌, ◌<◌, ◌≤◌, ◌^◌, true, false, cond, Bool, List, [], ◌∷◌, ◌++◌, Option, Some, None, is_some, refl, sym, ap, ◌∙◌, subst, inl, inr, arith, append_assoc, append-nil}
-use Rattle.std.specs.Prelude.{◌⊎◌}
+use Rattle.std.proofs.Common.{◌≡◌, ◌≢◌, ℕ, ◌<◌, ◌≤◌, true, false, Bool, List, [], ◌++◌, Option, Some, None, refl, sym, ap, ◌∙◌, subst, arith, append-nil}
 use Rattle.std.specs.FinMap as map
-use Rattle.std.proofs.lemmas.Bool.{cases_eq}
 use Rattle.tree_dev.specs.Trees.{FileTree, IsTree, behind}
 use Rattle.tree_dev.specs.Projects.{bytes_of, file_at, is_project_part, is_within, work_path}
-use Rattle.tree_dev.proofs.Behind.{behind_head, head_behind}
 use Rattle.install_world.specs.Finishing.{FinishesAlike, MakesReady, OnlyMade, Stands, StopsAt}
 use Rattle.install_world.specs.InFlight.{HasJournal, IsPart, IsPartDone, Placed, finished_by, finished_file, kept_path, part_at, staged_path, target_path}
 use Rattle.install_world.specs.JournalText.{Says}
@@ -15,7 +12,7 @@ use Rattle.install_world.specs.declared.journal.Journal.{Journal}
 use Rattle.install_world.specs.declared.moving.PartPlaces.{PartPlaces}
 use Rattle.install_world.specs.declared.target.Target.{Target}
 use Rattle.install_world.proofs.FinishSteps.{made_elsewhere, made_files, stands_apart, stands_target}
-use Rattle.install_world.proofs.Finished.{FoundPart, found_part}
+use Rattle.install_world.proofs.Finished.{found_part}
 use Rattle.install_world.proofs.FlightLaws.{part_done_is_own}
 use Rattle.install_world.proofs.OneJournal.{one_journal}
 use Rattle.install_world.proofs.PartCleared.{removed_else}

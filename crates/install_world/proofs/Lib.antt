@@ -1,5 +1,6 @@
 pub mod ApartPaths
 pub mod Cuts
+pub mod EndsAlike
 pub mod FinishAgain
 pub mod FinishAlike
 pub mod Finished

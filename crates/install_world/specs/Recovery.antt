@@ -8,7 +8,7 @@ use Rattle.tree_dev.specs.declared.entry.Entry.{Entry}
 use Rattle.install_world.specs.InFlight.{Files, HasFiles, HasSurroundings, NoJournal}
 use Rattle.install_world.specs.JournalText.{IsBadJournal, Says}
 use Rattle.install_world.specs.declared.journal.Journal.{Journal}
-use Rattle.install_world.specs.Moving.{Way}
+use Rattle.install_world.specs.Moving.{IsOnWay, Way}
 use Rattle.tree_dev.specs.declared.entry.Entry.TheVariants.{File, Folder}
 use Rattle.tree_dev.specs.declared.limits.TheConstants.{FILE_BYTES}
 use Rattle.install_world.specs.declared.recovery_fault.Recovered.{Recovered}
@@ -57,6 +57,10 @@ pub record IsNewProject (way : Way) (t : FileTree) : Type 0 where
   pub no_journal : NoJournal way.project t
   pub files : HasFiles way.project t way.new
   pub outside : HasSurroundings way.project way.surroundings t
+
+-- On the way by its journal, or at its end.
+abbrev pub IsEnding : Way → FileTree → Type 0
+IsEnding way t = IsOnWay way t ⊎ IsNewProject way t
 
 -- No journal stands, and the project has these files.
 pub record IsRecovered (project : List (List ℕ)) (files : Files) (t : FileTree) : Type 0 where

@@ -15,7 +15,7 @@ ghost use Rattle.install_world.specs.InFlight.{AreAllDone, HasJournal, IsInFligh
 ghost use Rattle.install_world.specs.Moving.{IsOnWay, Way};
 ghost use Rattle.install_world.specs.PartFaults.{is_device_fault, is_unfit, is_vanished};
 ghost use Rattle.install_world.specs.declared.part_fault.PartFault.TheVariants as faults;
-ghost use Rattle.install_world.specs.Recovery.{IsNewProject, IsRecovered};
+ghost use Rattle.install_world.specs.Recovery.{IsEnding, IsNewProject, IsRecovered};
 ghost use Rattle.install_world.specs.Removals.{OnlyRemoved, WritesNone};
 
 use crate::parts::{finish_parts, make_folder};
@@ -39,6 +39,8 @@ pub fn remove_journal<T: Tree>(tree: &mut T, journal: &Path) -> Result<Did, Fail
         → path ≢ journal.now → map.get u path ≡ map.get t path))) }
     ensures placed { IfOk result (λ did. OfTold (T.meaning tree.old) (λ t. is_file (entry_at t journal.now) ≡ true → did ≡ dids.Done)) }
     ensures removes { OnlyRemoved journal.now (reading (T.meaning tree.old).disks.now) (reading (T.meaning tree.new).disks.now) }
+    ensures ends { OfTold (T.meaning tree.old) (λ t. IsWhole (T.meaning tree.old).disks.now → (way : Way) → journal.now ≡ journal_path way.project
+        → AreAllDone way.project way.journal.targets t → EachImage (T.meaning tree.old) (IsOnWay way) → Through (T.meaning tree.old) (T.meaning tree.new) (IsEnding way)) }
 {
     tree.barrier()?;
     match tree.remove_file(journal)? {
@@ -66,6 +68,8 @@ fn end_journal<T: Tree>(alloc: Global, tree: &mut T, journal: &Path) -> Result<(
     ensures not_other { (path : List (List ℕ)) → result ≡ Err (faults.OtherEntry path) → ⊥ }
     ensures never_vanished { OfTold (T.meaning tree.old) (λ t. is_file (entry_at t journal.now) ≡ true → is_vanished result ≡ false) }
     ensures removes { OnlyRemoved journal.now (reading (T.meaning tree.old).disks.now) (reading (T.meaning tree.new).disks.now) }
+    ensures ends { OfTold (T.meaning tree.old) (λ t. IsWhole (T.meaning tree.old).disks.now → (way : Way) → journal.now ≡ journal_path way.project
+        → AreAllDone way.project way.journal.targets t → EachImage (T.meaning tree.old) (IsOnWay way) → Through (T.meaning tree.old) (T.meaning tree.new) (IsEnding way)) }
 {
     match remove_journal(tree, journal)? {
         Did::Done => Ok(()),
@@ -101,6 +105,9 @@ pub(crate) fn finish_journal<T: Tree>(
         → KeepsFinished project.now t (reading (T.meaning tree.new).disks.now)) }
     ensures stops { (path : List (List ℕ)) → result ≡ Err (faults.OtherEntry path) → OfTold (T.meaning tree.old) (λ t. Stands project.now journal.now t
         → (number : ℕ) × StopsAt project.now journal.now number t (reading (T.meaning tree.new).disks.now)) }
+    ensures ends { OfTold (T.meaning tree.old) (λ t. IsWhole (T.meaning tree.old).disks.now → (way : Way)
+        → way.project ≡ project.now → way.journal ≡ journal.now → at.now ≡ journal_path project.now → EachImage (T.meaning tree.old) (IsOnWay way)
+        → Through (T.meaning tree.old) (T.meaning tree.new) (IsEnding way)) }
 {
     let work = project.child(alloc, b".install")?;
     let old = work.child(alloc, b"old")?;

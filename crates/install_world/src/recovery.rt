@@ -68,6 +68,9 @@ fn take_install_away<T: Tree>(
     ensures never_vanished { OfTold (T.meaning tree.old) (λ t. map.get t work.now ≡ Some entries.Folder → is_vanished result ≡ false) }
     ensures again { OfTold (T.meaning tree.old) (λ t. (project : List (List ℕ)) → work.now ≡ work_path project → NoJournal project t
         → KeepsFinished project t (reading (T.meaning tree.new).disks.now)) }
+    ensures ends { OfTold (T.meaning tree.old) (λ t. (project : List (List ℕ)) (files : Files) → work.now ≡ work_path project → NoJournal project t
+        → EachImage (T.meaning tree.old) (λ left. IsFinishedProject project left files)
+        → Through (T.meaning tree.old) (T.meaning tree.new) (λ left. IsFinishedProject project left files)) }
 {
     tree.barrier()?;
     remove_folder(alloc, tree, work)?;
@@ -106,6 +109,10 @@ fn finish_text<T: Tree>(
     ensures stops { (path : List (List ℕ)) → result ≡ Err (faults.OtherEntry path) → OfTold (T.meaning tree.old) (λ t. (journal : Journals) → at.now ≡ journal_path project.now
         → map.get t at.now ≡ Some (entries.File text.now) → length text.now < 2 ^ 64 → Says text.now journal
         → (number : ℕ) × StopsAt project.now journal number t (reading (T.meaning tree.new).disks.now)) }
+    ensures ends { OfTold (T.meaning tree.old) (λ t. (surroundings : FileTree) (old new files : Files) → work.now ≡ work_path project.now → at.now ≡ journal_path project.now
+        → map.get t at.now ≡ Some (entries.File text.now) → length text.now < 2 ^ 64 → EachImage (T.meaning tree.old) (IsInFlight project.now surroundings old new)
+        → EachImage (T.meaning tree.old) (λ left. IsFinishedProject project.now left files)
+        → Through (T.meaning tree.old) (T.meaning tree.new) (λ left. IsFinishedProject project.now left files)) }
 {
     let journal = read_journal(alloc, text)?;
     tree.barrier()?;
@@ -143,6 +150,9 @@ fn finish_claimed<T: Tree>(
     ensures only { OnOk result (OfTold (T.meaning tree.old) (λ t. work.now ≡ work_path project.now → map.get t work.now ≡ Some entries.Folder → CanBeFinished project.now t)) }
     ensures stops { (path : List (List ℕ)) → result ≡ Err (faults.OtherEntry path) → OfTold (T.meaning tree.old) (λ t. (journal : Journals) → work.now ≡ work_path project.now
         → HasJournal project.now t journal → (number : ℕ) × StopsAt project.now journal number t (reading (T.meaning tree.new).disks.now)) }
+    ensures ends { OfTold (T.meaning tree.old) (λ t. (surroundings : FileTree) (old new files : Files) → work.now ≡ work_path project.now
+        → EachImage (T.meaning tree.old) (IsInFlight project.now surroundings old new) → EachImage (T.meaning tree.old) (λ left. IsFinishedProject project.now left files)
+        → Through (T.meaning tree.old) (T.meaning tree.new) (λ left. IsFinishedProject project.now left files)) }
 {
     let at = work.child(alloc, b"journal")?;
     match read_text(alloc, tree, &at)? {
@@ -188,6 +198,9 @@ pub fn finish_install<T: Tree>(
     ensures only { OnOk result (OfTold (T.meaning tree.old) (CanBeFinished project.now)) }
     ensures stops { (path : List (List ℕ)) → result ≡ Err (faults.OtherEntry path) → OfTold (T.meaning tree.old) (λ t. (journal : Journals)
         → HasJournal project.now t journal → (number : ℕ) × StopsAt project.now journal number t (reading (T.meaning tree.new).disks.now)) }
+    ensures ends { OfTold (T.meaning tree.old) (λ t. (surroundings : FileTree) (old new files : Files)
+        → EachImage (T.meaning tree.old) (IsInFlight project.now surroundings old new) → EachImage (T.meaning tree.old) (λ left. IsFinishedProject project.now left files)
+        → Through (T.meaning tree.old) (T.meaning tree.new) (λ left. IsFinishedProject project.now left files)) }
 {
     let work = project.child(alloc, b".install")?;
     match tree.stat(&work)? {

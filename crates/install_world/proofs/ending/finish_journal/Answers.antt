@@ -21,6 +21,7 @@ use Rattle.install_world.specs.Removals.{OnlyRemoved}
 use Rattle.install_world.proofs.FinishAgain.{keeps_alike, keeps_same, keeps_to_the_end}
 use Rattle.tree_dev.specs.Projects.{file_at}
 use Rattle.install_world.proofs.FinishStops.{made_leaves, stops_after, stops_at_once}
+use Rattle.install_world.proofs.EndsAlike.{nothing_ends, way_then_ends}
 use Rattle.install_world.proofs.ending.finish_journal.Goals as goal
 
 pub child-requires : goal.child-requires
@@ -349,3 +350,44 @@ returns-in_err-finish_parts-clause-stops g c = λ path is t told stands.
 
 pub returns-clause-stops : goal.returns-clause-stops
 returns-clause-stops g c = λ path is. absurd (c.end_journal.ensures.not_other path is)
+
+pub returns-in_err-work-clause-ends : goal.returns-in_err-work-clause-ends
+returns-in_err-work-clause-ends g c = λ t told whole way same by is each. way_then_ends way _ _ _ (through_from (IsOnWay way) _ each) (λ now. nothing_ends way _ now)
+
+pub returns-in_err-old-clause-ends : goal.returns-in_err-old-clause-ends
+returns-in_err-old-clause-ends g c = λ t told whole way same by is each. way_then_ends way _ _ _ (through_from (IsOnWay way) _ each) (λ now. nothing_ends way _ now)
+
+pub returns-in_err-make_folder-clause-ends : goal.returns-in_err-make_folder-clause-ends
+returns-in_err-make_folder-clause-ends g c = λ t told whole way same by is each.
+    let on = way_reads way (g.T.Tree.meaning c.args.tree.now) t (g.met.T.Tree.tells_its_disk c.args.tree.now t told) each in
+    let there = old_there way t on c.args.project.now c.in_ok-old.old same (old_is c.args.project.now c.in_ok-work.work c.in_ok-old.old c.in_ok-work.ensures c.in_ok-old.ensures) in
+    way_then_ends way _ _ _ (still_through way _ _ (c.make_folder.ensures.still t told there) c.make_folder.ensures.writes_none.faults each) (λ now. nothing_ends way _ now)
+
+pub returns-in_err-finish_parts-clause-ends : goal.returns-in_err-finish_parts-clause-ends
+returns-in_err-finish_parts-clause-ends g c = λ t told whole way same by is each.
+    let on = way_reads way (g.T.Tree.meaning c.args.tree.now) t (g.met.T.Tree.tells_its_disk c.args.tree.now t told) each in
+    let there = old_there way t on c.args.project.now c.in_ok-old.old same (old_is c.args.project.now c.in_ok-work.work c.in_ok-old.old c.in_ok-work.ensures c.in_ok-old.ensures) in
+    way_then_ends way _ _ _
+    (parents_then way _ _ _ t told c.make_folder.ensures.writes_none.tells c.make_folder.ensures.writes_none.faults (c.make_folder.ensures.still t told there)
+    (λ u now. c.finish_parts.ensures.through u now (c.make_folder.ensures.writes_none.whole whole) way same (targets_of way c.args.journal.now by c.as_slice.result.now c.as_slice.ensures))
+    each)
+    (λ now. nothing_ends way _ now)
+
+pub returns-clause-ends : goal.returns-clause-ends
+returns-clause-ends g c = λ t told whole way same by is each.
+    let first = g.T.Tree.meaning c.args.tree.now in
+    let second = g.T.Tree.meaning c.make_folder.new.tree in
+    let third = g.T.Tree.meaning c.finish_parts.new.tree in
+    let on = way_reads way first t (g.met.T.Tree.tells_its_disk c.args.tree.now t told) each in
+    let there = old_there way t on c.args.project.now c.in_ok-old.old same (old_is c.args.project.now c.in_ok-work.work c.in_ok-old.old c.in_ok-work.ensures c.in_ok-old.ensures) in
+    let targets = targets_of way c.args.journal.now by c.as_slice.result.now c.as_slice.ensures in
+    let whole_second = c.make_folder.ensures.writes_none.whole whole in
+    let now = told_still first second t c.make_folder.ensures.writes_none.tells told in
+    let then = told_still second third now.0 c.finish_parts.ensures.writes_none.tells now.1 in
+    let start = still_through way first second (c.make_folder.ensures.still t told there) c.make_folder.ensures.writes_none.faults each in
+    let here = through_ends (IsOnWay way) first second start in
+    way_then_ends way first third _ (through_then_through (IsOnWay way) first second third (c.finish_parts.ensures.through now.0 now.1 whole_second way same targets) start)
+    (λ each_third. c.end_journal.ensures.ends then.0 then.1 (c.finish_parts.ensures.writes_none.whole whole_second) way (at_way way c.args.project.now c.args.at.now same is)
+    (all_done_of way c.args.project.now c.as_slice.result.now then.0 third same targets (g.met.T.Tree.tells_its_disk c.finish_parts.new.tree then.0 then.1)
+    (c.in_ok-finish_parts.ensures.done now.0 now.1 way.journal targets
+    (stands_here way c.args.project.now second now.0 same (g.met.T.Tree.tells_its_disk c.make_folder.new.tree now.0 now.1) here))) each_third)

@@ -18,6 +18,8 @@ use Rattle.install_world.proofs.FoldersThere.{file_has_place}
 use Rattle.install_world.proofs.FinishAgain.{file_goes}
 use Rattle.install_world.proofs.PartCleared.{removed_barrier}
 use Rattle.install_world.proofs.RemovalRules.{removed_on}
+use Rattle.install_world.specs.Recovery.{IsEnding}
+use Rattle.install_world.proofs.EndsAlike.{ends_on_the_way, still_ending}
 use Rattle.install_world.proofs.ending.remove_journal.Goals as goal
 
 pub returns-in_err-barrier-clause-writes_none : goal.returns-in_err-barrier-clause-writes_none
@@ -139,3 +141,29 @@ pub returns-in_ok-barrier-in-Done-clause-removes : goal.returns-in_ok-barrier-in
 returns-in_ok-barrier-in-Done-clause-removes g c =
     removed_on c.args.journal.now _ _ _ (removed_on c.args.journal.now _ _ _ (removed_barrier c.args.journal.now _ _ c.barrier.ensures.moments) (file_goes _ _ c.args.journal.now c.remove_file.ensures.moments))
     (removed_barrier c.args.journal.now _ _ c.barrier-in-Done.ensures.moments)
+
+pub returns-in_err-barrier-clause-ends : goal.returns-in_err-barrier-clause-ends
+returns-in_err-barrier-clause-ends g c = λ t told whole way is done each.
+    still_ending way _ _ t (g.met.T.Tree.tells_its_disk c.args.tree.now t told) c.barrier.ensures.moments each
+
+pub returns-in_err-remove_file-clause-ends : goal.returns-in_err-remove_file-clause-ends
+returns-in_err-remove_file-clause-ends g c = λ t told whole way is done each.
+    ends_on_the_way way _ _ t (g.met.T.Tree.tells_its_disk c.args.tree.now t told) c.barrier.ensures.moments _ c.args.journal.now c.remove_file.ensures.moments
+    (g.met.T.Tree.tells_trees c.args.tree.now t told) whole is done each
+
+pub returns-in_err-barrier-in-Done-clause-ends : goal.returns-in_err-barrier-in-Done-clause-ends
+returns-in_err-barrier-in-Done-clause-ends g c = λ t told whole way is done each.
+    through_then_barrier (IsEnding way) _ _ _ c.barrier-in-Done.ensures.moments
+    (ends_on_the_way way _ _ t (g.met.T.Tree.tells_its_disk c.args.tree.now t told) c.barrier.ensures.moments _ c.args.journal.now c.remove_file.ensures.moments
+    (g.met.T.Tree.tells_trees c.args.tree.now t told) whole is done each)
+
+pub returns-in_ok-barrier-in-Done-clause-ends : goal.returns-in_ok-barrier-in-Done-clause-ends
+returns-in_ok-barrier-in-Done-clause-ends g c = λ t told whole way is done each.
+    through_then_barrier (IsEnding way) _ _ _ c.barrier-in-Done.ensures.moments
+    (ends_on_the_way way _ _ t (g.met.T.Tree.tells_its_disk c.args.tree.now t told) c.barrier.ensures.moments _ c.args.journal.now c.remove_file.ensures.moments
+    (g.met.T.Tree.tells_trees c.args.tree.now t told) whole is done each)
+
+pub returns-in-Misplaced-clause-ends : goal.returns-in-Misplaced-clause-ends
+returns-in-Misplaced-clause-ends g c = λ t told whole way is done each.
+    ends_on_the_way way _ _ t (g.met.T.Tree.tells_its_disk c.args.tree.now t told) c.barrier.ensures.moments _ c.args.journal.now c.remove_file.ensures.moments
+    (g.met.T.Tree.tells_trees c.args.tree.now t told) whole is done each

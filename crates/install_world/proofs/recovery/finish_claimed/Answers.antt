@@ -5,7 +5,7 @@ use Rattle.std.proofs.lemmas.Result.{IfOk-weaker, err_from_is_err_and, on_ok_wea
 use Rattle.tree_dev.specs.Device.{only_read_on}
 use Rattle.tree_dev.proofs.Stretches.{through_from, through_on}
 use Rattle.tree_dev.proofs.Whole.{through_then_read}
-use Rattle.install_world.specs.InFlight.{IsInFlight, NoJournal}
+use Rattle.install_world.specs.InFlight.{IsFinishedProject, IsInFlight, NoJournal}
 use Rattle.install_world.specs.Recovery.{ended_by}
 use Rattle.install_world.specs.Removals.{OnlyRemoved}
 use Rattle.install_world.proofs.JournalEnds.{no_journal_left, parts_left}
@@ -278,3 +278,28 @@ returns-clause-stops g c = λ path is t told journal is_work has.
     (subst (λ bytes. map.get t c.in_ok-at.at ≡ Some (File bytes)) (sym c.as_slice.ensures) file.0)
     (subst (λ bytes. length bytes < 2 ^ 64) (sym c.as_slice.ensures) file.1)
     (subst (λ bytes. Says bytes journal) (text ∙ sym c.as_slice.ensures) has.says)
+
+pub returns-in_err-at-clause-ends : goal.returns-in_err-at-clause-ends
+returns-in_err-at-clause-ends g c = λ t told surroundings old new files is_work each same. through_from (λ (left : FileTree). IsFinishedProject c.args.project.now left files) _ same
+
+pub returns-in_err-read_text-clause-ends : goal.returns-in_err-read_text-clause-ends
+returns-in_err-read_text-clause-ends g c = λ t told surroundings old new files is_work each same.
+    through_then_read (λ (left : FileTree). IsFinishedProject c.args.project.now left files) _ _ _ _ c.read_text.ensures.only_read (through_from (λ (left : FileTree). IsFinishedProject c.args.project.now left files) _ same)
+
+pub returns-in-None-clause-ends : goal.returns-in-None-clause-ends
+returns-in-None-clause-ends g c = λ t told surroundings old new files is_work each same.
+    let is_at = at_is c.args.project.now c.args.work.now c.in_ok-at.at is_work c.in_ok-at.ensures in
+    let none : map.get t c.in_ok-at.at ≡ None = rw c.in-None.is at (c.in_ok-read_text.ensures.text t told) in
+    let nothing : NoJournal c.args.project.now t = record { absent = subst (λ path. map.get t path ≡ None) is_at none } in
+    through_on (λ (left : FileTree). IsFinishedProject c.args.project.now left files) _ _ _ (through_then_read (λ (left : FileTree). IsFinishedProject c.args.project.now left files) _ _ _ _ c.read_text.ensures.only_read (through_from (λ (left : FileTree). IsFinishedProject c.args.project.now left files) _ same))
+    (c.take_install_away.ensures.ends t (c.read_text.ensures.only_read.told ∙ told) c.args.project.now files is_work nothing (images_read (λ (left : FileTree). IsFinishedProject c.args.project.now left files) _ _ _ c.read_text.ensures.only_read same))
+
+pub returns-clause-ends : goal.returns-clause-ends
+returns-clause-ends g c = λ t told surroundings old new files is_work each same.
+    let is_at = at_is c.args.project.now c.args.work.now c.in_ok-at.at is_work c.in_ok-at.ensures in
+    let file : (map.get t c.in_ok-at.at ≡ Some (File c.in-Some.text)) × (length c.in-Some.text < 2 ^ 64) = rw c.in-Some.is at (c.in_ok-read_text.ensures.text t told) in
+    through_on (λ (left : FileTree). IsFinishedProject c.args.project.now left files) _ _ _ (through_then_read (λ (left : FileTree). IsFinishedProject c.args.project.now left files) _ _ _ _ c.read_text.ensures.only_read (through_from (λ (left : FileTree). IsFinishedProject c.args.project.now left files) _ same))
+    (c.finish_text.ensures.ends t (c.read_text.ensures.only_read.told ∙ told) surroundings old new files is_work is_at
+    (subst (λ bytes. map.get t c.in_ok-at.at ≡ Some (File bytes)) (sym c.as_slice.ensures) file.0)
+    (subst (λ bytes. length bytes < 2 ^ 64) (sym c.as_slice.ensures) file.1)
+    (images_read (IsInFlight c.args.project.now surroundings old new) _ _ _ c.read_text.ensures.only_read each) (images_read (λ (left : FileTree). IsFinishedProject c.args.project.now left files) _ _ _ c.read_text.ensures.only_read same))

@@ -8,7 +8,7 @@ use Rattle.tree_dev.specs.Disk.{reading}
 use Rattle.tree_dev.proofs.Images.{reading_is_image}
 use Rattle.tree_dev.proofs.Stretches.{through_from, through_on}
 use Rattle.tree_dev.proofs.Whole.{through_then_read}
-use Rattle.install_world.specs.InFlight.{HasFiles, IsInFlight}
+use Rattle.install_world.specs.InFlight.{HasFiles, IsFinishedProject, IsInFlight}
 use Rattle.install_world.proofs.PartDone.{absent_is_none, reads_same}
 use Rattle.install_world.proofs.RecoveryRules.{ended_in, folder_is_some, images_read, no_work_no_journal, nothing_to_do, own_files, work_under}
 use Rattle.install_world.proofs.RemovalRules.{writes_none_on, writes_none_read, writes_none_start}
@@ -209,3 +209,24 @@ returns-in_default-clause-stops g c = λ path is t told journal has. (
   stops_at_once c.args.project.now journal t _ (λ at. ap (λ (w : FileTree). file_at w at)
       (reads_then _ _ t _ (g.met.T.Tree.tells_its_disk c.args.tree.now t told) c.stat.ensures.only_read)),
 )
+
+pub returns-in_err-work-clause-ends : goal.returns-in_err-work-clause-ends
+returns-in_err-work-clause-ends g c = λ t told surroundings old new files each same. through_from (λ (left : FileTree). IsFinishedProject c.args.project.now left files) _ same
+
+pub returns-in_err-stat-clause-ends : goal.returns-in_err-stat-clause-ends
+returns-in_err-stat-clause-ends g c = λ t told surroundings old new files each same.
+    through_then_read (λ (left : FileTree). IsFinishedProject c.args.project.now left files) _ _ _ _ c.stat.ensures.only_read (through_from (λ (left : FileTree). IsFinishedProject c.args.project.now left files) _ same)
+
+pub returns-in-Absent-clause-ends : goal.returns-in-Absent-clause-ends
+returns-in-Absent-clause-ends g c = λ t told surroundings old new files each same.
+    through_then_read (λ (left : FileTree). IsFinishedProject c.args.project.now left files) _ _ _ _ c.stat.ensures.only_read (through_from (λ (left : FileTree). IsFinishedProject c.args.project.now left files) _ same)
+
+pub returns-in_default-clause-ends : goal.returns-in_default-clause-ends
+returns-in_default-clause-ends g c = λ t told surroundings old new files each same.
+    through_then_read (λ (left : FileTree). IsFinishedProject c.args.project.now left files) _ _ _ _ c.stat.ensures.only_read (through_from (λ (left : FileTree). IsFinishedProject c.args.project.now left files) _ same)
+
+pub returns-in-Folder-clause-ends : goal.returns-in-Folder-clause-ends
+returns-in-Folder-clause-ends g c = λ t told surroundings old new files each same.
+    through_on (λ (left : FileTree). IsFinishedProject c.args.project.now left files) _ _ _ (through_then_read (λ (left : FileTree). IsFinishedProject c.args.project.now left files) _ _ _ _ c.stat.ensures.only_read (through_from (λ (left : FileTree). IsFinishedProject c.args.project.now left files) _ same))
+    (c.finish_claimed.ensures.ends t (c.stat.ensures.only_read.told ∙ told) surroundings old new files c.in_ok-work.ensures
+    (images_read (IsInFlight c.args.project.now surroundings old new) _ _ _ c.stat.ensures.only_read each) (images_read (λ (left : FileTree). IsFinishedProject c.args.project.now left files) _ _ _ c.stat.ensures.only_read same))

@@ -29,6 +29,12 @@ use Rattle.tree_dev.specs.Disk.{reading}
 use Rattle.install_world.specs.Finishing.{StopsAt}
 use Rattle.install_world.specs.declared.journal.Journal.{Journal}
 use Rattle.install_world.proofs.OneJournal.{one_journal}
+use Rattle.std.proofs.Common.{inr}
+use Rattle.tree_dev.specs.Trees.{FileTree}
+use Rattle.install_world.specs.InFlight.{IsFinishedProject}
+use Rattle.install_world.specs.Recovery.{IsNewProject}
+use Rattle.install_world.proofs.EndsAlike.{ending_is_finished, ends_finished, ends_fit}
+use Rattle.install_world.proofs.JournalEnds.{through_weaker}
 use Rattle.install_world.proofs.recovery.finish_text.Goals as goal
 
 pub returns-in_err-journal-clause-writes_none : goal.returns-in_err-journal-clause-writes_none
@@ -326,3 +332,78 @@ returns-in_err-remove_folder-clause-stops g c = λ path is.
     let given = p.1 in
     let from = p.2 in
     absurd (no_other_removal c.in_err-remove_folder.field-0.0 path cc)
+
+pub returns-in_err-journal-clause-ends : goal.returns-in_err-journal-clause-ends
+returns-in_err-journal-clause-ends g c = λ t told surroundings old new files is_work is_at there small each same. through_from (λ (left : FileTree). IsFinishedProject c.args.project.now left files) _ same
+
+pub returns-in_err-barrier-clause-ends : goal.returns-in_err-barrier-clause-ends
+returns-in_err-barrier-clause-ends g c = λ t told surroundings old new files is_work is_at there small each same.
+    through_then_barrier (λ (left : FileTree). IsFinishedProject c.args.project.now left files) _ _ _ c.barrier.ensures.moments (through_from (λ (left : FileTree). IsFinishedProject c.args.project.now left files) _ same)
+
+pub returns-in_err-finish_journal-clause-ends : goal.returns-in_err-finish_journal-clause-ends
+returns-in_err-finish_journal-clause-ends g c = λ t told surroundings old new files is_work is_at there small each same.
+    let first = g.T.Tree.meaning c.args.tree.now in
+    let second = g.T.Tree.meaning c.barrier.new.self in
+    let disk = g.met.T.Tree.tells_its_disk c.args.tree.now t told in
+    let way = way_of c.args.project.now surroundings old new c.in_ok-journal.journal in
+    let here = subst (λ path. map.get t path ≡ Some (File c.args.text.now)) is_at there in
+    let flight = image_reads (IsInFlight c.args.project.now surroundings old new) first t disk each in
+    let on = way_begins c.args.project.now surroundings old new c.in_ok-journal.journal c.args.text.now t flight here small c.in_ok-journal.ensures.says in
+    let settles = c.in_ok-barrier.ensures.done t told in
+    let each_second = settled_images (IsOnWay way) first second t disk settles on in
+    let whole = subst (λ (disks : Disks). IsWhole disks.now) (sym settles.disks) (settled_is_whole first.disks) in
+    let told_second = settles.told ∙ told in
+    let fits = ends_fit c.args.project.now surroundings old new files t c.in_ok-journal.journal c.args.text.now flight here small c.in_ok-journal.ensures.says (image_reads (λ (left : FileTree). IsFinishedProject c.args.project.now left files) first t disk same) in
+    let start = through_then_barrier (λ (left : FileTree). IsFinishedProject c.args.project.now left files) first first second c.barrier.ensures.moments (through_from (λ (left : FileTree). IsFinishedProject c.args.project.now left files) first same) in
+    let third = g.T.Tree.meaning c.finish_journal.new.tree in
+    let middle = through_on (λ (left : FileTree). IsFinishedProject c.args.project.now left files) first second third start
+    (ends_finished way files fits second third (c.finish_journal.ensures.ends t told_second whole way refl refl is_at each_second)) in
+    middle
+
+pub returns-in_err-remove_folder-clause-ends : goal.returns-in_err-remove_folder-clause-ends
+returns-in_err-remove_folder-clause-ends g c = λ t told surroundings old new files is_work is_at there small each same.
+    let first = g.T.Tree.meaning c.args.tree.now in
+    let second = g.T.Tree.meaning c.barrier.new.self in
+    let disk = g.met.T.Tree.tells_its_disk c.args.tree.now t told in
+    let way = way_of c.args.project.now surroundings old new c.in_ok-journal.journal in
+    let here = subst (λ path. map.get t path ≡ Some (File c.args.text.now)) is_at there in
+    let flight = image_reads (IsInFlight c.args.project.now surroundings old new) first t disk each in
+    let on = way_begins c.args.project.now surroundings old new c.in_ok-journal.journal c.args.text.now t flight here small c.in_ok-journal.ensures.says in
+    let settles = c.in_ok-barrier.ensures.done t told in
+    let each_second = settled_images (IsOnWay way) first second t disk settles on in
+    let whole = subst (λ (disks : Disks). IsWhole disks.now) (sym settles.disks) (settled_is_whole first.disks) in
+    let told_second = settles.told ∙ told in
+    let fits = ends_fit c.args.project.now surroundings old new files t c.in_ok-journal.journal c.args.text.now flight here small c.in_ok-journal.ensures.says (image_reads (λ (left : FileTree). IsFinishedProject c.args.project.now left files) first t disk same) in
+    let start = through_then_barrier (λ (left : FileTree). IsFinishedProject c.args.project.now left files) first first second c.barrier.ensures.moments (through_from (λ (left : FileTree). IsFinishedProject c.args.project.now left files) first same) in
+    let third = g.T.Tree.meaning c.finish_journal.new.tree in
+    let middle = through_on (λ (left : FileTree). IsFinishedProject c.args.project.now left files) first second third start
+    (ends_finished way files fits second third (c.finish_journal.ensures.ends t told_second whole way refl refl is_at each_second)) in
+    let done = c.in_ok-finish_journal.ensures.settled t told_second whole way refl refl is_at each_second in
+    let fourth = g.T.Tree.meaning c.remove_folder.new.tree in
+    through_on (λ (left : FileTree). IsFinishedProject c.args.project.now left files) first third fourth middle
+    (through_weaker (IsNewProject way) (λ (left : FileTree). IsFinishedProject c.args.project.now left files) third fourth (λ left new. ending_is_finished way files fits left (inr new))
+    (then_work_goes way c.args.work.now third fourth is_work c.remove_folder.ensures.removes done))
+
+pub returns-clause-ends : goal.returns-clause-ends
+returns-clause-ends g c = λ t told surroundings old new files is_work is_at there small each same.
+    let first = g.T.Tree.meaning c.args.tree.now in
+    let second = g.T.Tree.meaning c.barrier.new.self in
+    let disk = g.met.T.Tree.tells_its_disk c.args.tree.now t told in
+    let way = way_of c.args.project.now surroundings old new c.in_ok-journal.journal in
+    let here = subst (λ path. map.get t path ≡ Some (File c.args.text.now)) is_at there in
+    let flight = image_reads (IsInFlight c.args.project.now surroundings old new) first t disk each in
+    let on = way_begins c.args.project.now surroundings old new c.in_ok-journal.journal c.args.text.now t flight here small c.in_ok-journal.ensures.says in
+    let settles = c.in_ok-barrier.ensures.done t told in
+    let each_second = settled_images (IsOnWay way) first second t disk settles on in
+    let whole = subst (λ (disks : Disks). IsWhole disks.now) (sym settles.disks) (settled_is_whole first.disks) in
+    let told_second = settles.told ∙ told in
+    let fits = ends_fit c.args.project.now surroundings old new files t c.in_ok-journal.journal c.args.text.now flight here small c.in_ok-journal.ensures.says (image_reads (λ (left : FileTree). IsFinishedProject c.args.project.now left files) first t disk same) in
+    let start = through_then_barrier (λ (left : FileTree). IsFinishedProject c.args.project.now left files) first first second c.barrier.ensures.moments (through_from (λ (left : FileTree). IsFinishedProject c.args.project.now left files) first same) in
+    let third = g.T.Tree.meaning c.finish_journal.new.tree in
+    let middle = through_on (λ (left : FileTree). IsFinishedProject c.args.project.now left files) first second third start
+    (ends_finished way files fits second third (c.finish_journal.ensures.ends t told_second whole way refl refl is_at each_second)) in
+    let done = c.in_ok-finish_journal.ensures.settled t told_second whole way refl refl is_at each_second in
+    let fourth = g.T.Tree.meaning c.remove_folder.new.tree in
+    through_on (λ (left : FileTree). IsFinishedProject c.args.project.now left files) first third fourth middle
+    (through_weaker (IsNewProject way) (λ (left : FileTree). IsFinishedProject c.args.project.now left files) third fourth (λ left new. ending_is_finished way files fits left (inr new))
+    (then_work_goes way c.args.work.now third fourth is_work c.remove_folder.ensures.removes done))

@@ -2,7 +2,7 @@ use Rattle.std.proofs.Common.{sym, subst}
 use Rattle.std.proofs.lemmas.Result.{err_from_is_err_and}
 use Rattle.tree_dev.proofs.Stretches.{through_from}
 use Rattle.tree_dev.proofs.Whole.{through_then_barrier}
-use Rattle.install_world.specs.InFlight.{IsInFlight}
+use Rattle.install_world.specs.InFlight.{IsFinishedProject, IsInFlight}
 use Rattle.install_world.specs.Removals.{OnlyRemoved}
 use Rattle.install_world.proofs.JournalEnds.{in_flight_left}
 use Rattle.install_world.proofs.PartCleared.{images_cleared, through_cleared}
@@ -116,3 +116,23 @@ returns-clause-again g c = λ t told project is none.
     (subst (λ (w : FileTree). OnlyRemoved c.args.work.now w (reading (g.T.Tree.meaning c.remove_folder.new.tree).disks.now))
     (barrier_keeps_reading (g.T.Tree.meaning c.args.tree.now) (g.T.Tree.meaning c.barrier.new.self) c.barrier.ensures.moments ∙ sym (g.met.T.Tree.tells_its_disk c.args.tree.now t told).reads)
     c.remove_folder.ensures.removes.reads)
+
+pub returns-in_err-barrier-clause-ends : goal.returns-in_err-barrier-clause-ends
+returns-in_err-barrier-clause-ends g c = λ t told project files is none each.
+    through_then_barrier (λ (left : FileTree). IsFinishedProject project left files) _ _ _ c.barrier.ensures.moments (through_from (λ (left : FileTree). IsFinishedProject project left files) _ each)
+
+pub returns-in_err-remove_folder-clause-ends : goal.returns-in_err-remove_folder-clause-ends
+returns-in_err-remove_folder-clause-ends g c = λ t told project files is none each.
+    let disk = g.met.T.Tree.tells_its_disk c.args.tree.now t told in
+    through_cleared (λ (left : FileTree). IsFinishedProject project left files) c.args.work.now t
+    (λ left removed. keeps_removed project c.args.work.now t left is none removed files (image_reads (λ (left : FileTree). IsFinishedProject project left files) (g.T.Tree.meaning c.args.tree.now) t disk each))
+    _ _ _ _ (c.in_ok-barrier.ensures.done t told) (sym disk.reads) c.remove_folder.ensures.removes
+    (through_then_barrier (λ (left : FileTree). IsFinishedProject project left files) _ _ _ c.barrier.ensures.moments (through_from (λ (left : FileTree). IsFinishedProject project left files) _ each))
+
+pub returns-clause-ends : goal.returns-clause-ends
+returns-clause-ends g c = λ t told project files is none each.
+    let disk = g.met.T.Tree.tells_its_disk c.args.tree.now t told in
+    through_cleared (λ (left : FileTree). IsFinishedProject project left files) c.args.work.now t
+    (λ left removed. keeps_removed project c.args.work.now t left is none removed files (image_reads (λ (left : FileTree). IsFinishedProject project left files) (g.T.Tree.meaning c.args.tree.now) t disk each))
+    _ _ _ _ (c.in_ok-barrier.ensures.done t told) (sym disk.reads) c.remove_folder.ensures.removes
+    (through_then_barrier (λ (left : FileTree). IsFinishedProject project left files) _ _ _ c.barrier.ensures.moments (through_from (λ (left : FileTree). IsFinishedProject project left files) _ each))
