@@ -4,3 +4,4 @@ pub mod Flights
 pub mod Ends
 pub mod WriteCounts
 pub mod Recoveries
+pub mod Commanding

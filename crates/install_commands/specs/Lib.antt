@@ -1,4 +1,5 @@
 pub mod Refusals
 pub mod Claiming
 pub mod Working
+pub mod Commanded
 pub mod Recovering

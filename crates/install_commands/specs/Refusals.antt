@@ -1,7 +1,5 @@
 -- Faults of the steps of an install as refusals.
 use Rattle.std.specs.Prelude.{Result, Ok, Err}
-use Rattle.class_walk.specs.declared.fault.WalkFault.{WalkFault}
-use Rattle.class_walk.specs.declared.fault.WalkFault.TheVariants as walks
 use Rattle.install_world.specs.declared.recovery_fault.RecoverFault.{RecoverFault}
 use Rattle.install_world.specs.declared.recovery_fault.RecoverFault.TheVariants as recoveries
 use Rattle.stage_job.specs.declared.fault.StageFault.{StageFault}
@@ -32,14 +30,6 @@ refusal_of_staging (stages.Vanished at) = refusals.Vanished (Entry at)
 refusal_of_staging stages.DeviceFault = refusals.DeviceFault
 refusal_of_staging stages.OutOfMemory = refusals.OutOfMemory
 
-abbrev pub refusal_of_walk : WalkFault → Refusal
-refusal_of_walk (walks.ClassmapMissing at) = refusals.ClassmapMissing at
-refusal_of_walk (walks.OtherEntry at) = refusals.OtherEntry at
-refusal_of_walk (walks.Limit limit) = refusals.Limit limit
-refusal_of_walk (walks.Vanished at) = refusals.Vanished (Entry at)
-refusal_of_walk walks.DeviceFault = refusals.DeviceFault
-refusal_of_walk walks.OutOfMemory = refusals.OutOfMemory
-
 abbrev pub refusal_of_recovery : RecoverFault → Refusal
 refusal_of_recovery (recoveries.BadJournal at) = refusals.BadJournal at
 refusal_of_recovery (recoveries.OtherEntry at) = refusals.OtherEntry at
@@ -51,7 +41,3 @@ refusal_of_recovery recoveries.OutOfMemory = refusals.OutOfMemory
 abbrev pub or_not_staged : {X : Type 0} → Result X StageFault → Result X Refusal
 or_not_staged (Ok x) = Ok x
 or_not_staged (Err fault) = Err (refusal_of_staging fault)
-
-abbrev pub or_not_walked : {X : Type 0} → Result X WalkFault → Result X Refusal
-or_not_walked (Ok x) = Ok x
-or_not_walked (Err fault) = Err (refusal_of_walk fault)

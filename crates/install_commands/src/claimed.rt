@@ -14,7 +14,7 @@ ghost use Rattle.stage_job.specs.Staged.{IsClaimed, IsStagedJob, KeepsTelling, S
 ghost use Rattle.vendor_journal.specs.Committing.{IsReady};
 ghost use Rattle.vendor_journal.specs.JobTargets.{journal_for};
 ghost use Rattle.vendor_journal.specs.Prepared.{IsPrepared};
-ghost use Rattle.run_answers.specs.Faults.{is_free, is_of_device, is_device_fault};
+ghost use Rattle.run_answers.specs.Faults.{is_free, is_of_device, is_of_tree, is_device_fault};
 ghost use Rattle.run_answers.specs.Steps.{Tells, is_free_result};
 ghost use Rattle.run_answers.specs.declared.refusal.Refusal.TheVariants as refusals;
 ghost use Rattle.project_files.specs.Places.{manifest_place};
@@ -39,6 +39,7 @@ use vendor_journal::{ClaimFault, Hold, Prepared, claim, commit, journal_of, prep
 fn has_manifest<T: Tree>(alloc: Global, project: &Path, tree: &mut T) -> Result<bool, Refusal>
     ensures told { OfTold (T.meaning tree.old) (λ t. IfOk result (λ has. has ≡ is_some (map.get t (manifest_place project.now)))) }
     ensures free { IfErr result (λ refusal. IsTrue (is_free refusal)) }
+    ensures causes { IfErr result (λ refusal. IsTrue (is_of_tree refusal)) }
     ensures only_read { OnlyRead (T.meaning tree.old) (T.meaning tree.new) (is_device_fault result) }
 {
     match tree.stat(&places::manifest(alloc, project)?)? {
@@ -53,6 +54,7 @@ fn has_manifest<T: Tree>(alloc: Global, project: &Path, tree: &mut T) -> Result<
 /// before.
 fn refusal_of_lost<T: Tree>(alloc: Global, project: &Path, work: Path, tree: &mut T) -> Refusal
     ensures told { OfTold (T.meaning tree.old) (λ t. has_folder t (Some project.now) ≡ false → IsTrue (is_free result) ⊎ (result ≡ refusals.NoManifest)) }
+    ensures causes { IsTrue (is_of_tree result) }
     ensures only_read { OnlyRead (T.meaning tree.old) (T.meaning tree.new) (is_of_device result) }
 {
     match has_manifest(alloc, project, tree) {
@@ -73,6 +75,7 @@ pub fn claim_project<T: Tree>(alloc: Global, project: &Path, tree: &mut T) -> Re
     ensures tells { KeepsTelling (T.meaning tree.old) (T.meaning tree.new) }
     ensures steady { Steady project.now (T.meaning tree.old) (T.meaning tree.new) }
     ensures writes { (T.meaning tree.new).writes ≡ (T.meaning tree.old).writes }
+    ensures causes { IfErr result (λ refusal. IsTrue (is_of_tree refusal)) }
     ensures device { IsTrue (is_device_fault result) → Rose (T.meaning tree.old).faults (T.meaning tree.new).faults }
 {
     match claim(alloc, tree, project) {
@@ -92,6 +95,7 @@ fn release_refused<T: Tree>(alloc: Global, tree: &mut T, hold: Hold, refusal: Re
     ensures steady { Steady hold.project (T.meaning tree.old) (T.meaning tree.new) }
     ensures tells { KeepsTelling (T.meaning tree.old) (T.meaning tree.new) }
     ensures writes { (T.meaning tree.new).writes ≡ (T.meaning tree.old).writes }
+    ensures causes { IsTrue (is_of_tree refusal) → IsTrue (is_of_tree result) }
     ensures silent { refusal ≡ refusals.DeviceFault → T.meaning tree.new ≡ T.meaning tree.old }
     ensures device { IsTrue (is_of_device result) → IsTrue (is_of_device refusal) ⊎ Rose (T.meaning tree.old).faults (T.meaning tree.new).faults }
 {
@@ -108,6 +112,7 @@ fn release_refused<T: Tree>(alloc: Global, tree: &mut T, hold: Hold, refusal: Re
 #[tactic(auto, unfolding(crate::specs::Working::text_fits))]
 fn refuse_long(alloc: Global, project: &Path, prepared: &Prepared) -> Result<(), Refusal>
     ensures told { Tells (λ passed. passed) (text_fits project.now prepared.now.text) result }
+    ensures causes { IfErr result (λ refusal. IsTrue (is_of_tree refusal)) }
     ensures no_device { is_device_fault result ≡ false }
 {
     if prepared.journal_bytes() > FILE_BYTES as usize {
@@ -123,6 +128,7 @@ fn journal_ready(alloc: Global, hold: &Hold, work: &Work) -> Result<Prepared, Re
     requires some { work.now.job.parts ≢ [] }
     ensures told { Tells (λ prepared. tt) (journal_fits hold.now.project work.now.job.parts work.now.generation) result }
     ensures ready { IfOk result (IsPrepared hold.now.project (journal_for work.now.job.parts work.now.generation)) }
+    ensures causes { IfErr result (λ refusal. IsTrue (is_of_tree refusal)) }
     ensures no_device { is_device_fault result ≡ false }
 {
     let journal = journal_of(alloc, &work.job, work.generation)?;
@@ -148,6 +154,7 @@ fn stage_work<T: Tree>(
     ensures staging { Staging hold.now.project (T.meaning tree.old) (T.meaning tree.new) (is_device_fault result) }
     ensures tells { KeepsTelling (T.meaning tree.old) (T.meaning tree.new) }
     ensures writes { OfTold (T.meaning tree.old) (λ t. (T.meaning tree.new).writes ≤ after_more (T.meaning tree.old).writes (job_files t work.now.job.parts)) }
+    ensures causes { IfErr result (λ refusal. IsTrue (is_of_tree refusal)) }
 {
     match stage(alloc, tree, &hold.project, &work.job, left) {
         Ok(()) => Ok(()),
@@ -175,6 +182,7 @@ fn make_ready<T: Tree>(
     ensures staging { Staging hold.now.project (T.meaning tree.old) (T.meaning tree.new) (is_device_fault result) }
     ensures tells { KeepsTelling (T.meaning tree.old) (T.meaning tree.new) }
     ensures writes { OfTold (T.meaning tree.old) (λ t. (T.meaning tree.new).writes ≤ after_more (T.meaning tree.old).writes (job_files t work.now.job.parts)) }
+    ensures causes { IfErr result (λ refusal. IsTrue (is_of_tree refusal)) }
 {
     stage_work(alloc, tree, hold, work, left)?;
     journal_ready(alloc, hold, work)
@@ -195,6 +203,7 @@ fn commit_and_release<T: Tree>(
         → EachImage (T.meaning tree.old) (λ left. left ≡ t) → EachImage (T.meaning tree.new) (IsNewProject way))) }
     ensures released { OnOk result (OfTold (T.meaning tree.new) (λ u. map.get u (work_path hold.project) ≡ None)) }
     ensures writes { (T.meaning tree.new).writes ≡ next (T.meaning tree.old).writes }
+    ensures causes { IfErr result (λ refusal. IsTrue (is_of_tree refusal)) }
     ensures device { IsTrue (is_device_fault result) → Rose (T.meaning tree.old).faults (T.meaning tree.new).faults }
 {
     if let Err(fault) = commit(tree, &hold, prepared) {
@@ -217,6 +226,7 @@ fn release_done<T: Tree>(
     ensures released { OnOk result (OfTold (T.meaning tree.new) (λ u. map.get u (work_path hold.project) ≡ None)) }
     ensures steady { Steady hold.project (T.meaning tree.old) (T.meaning tree.new) }
     ensures writes { (T.meaning tree.new).writes ≡ (T.meaning tree.old).writes }
+    ensures causes { IfErr result (λ refusal. IsTrue (is_of_tree refusal)) }
     ensures device { IsTrue (is_device_fault result) → Rose (T.meaning tree.old).faults (T.meaning tree.new).faults }
 {
     match release(alloc, tree, hold) {
@@ -246,6 +256,7 @@ fn end_made<T: Tree>(
         → IfErr result (λ refusal. is_free refusal ≡ false → EachImage (T.meaning tree.new) (IsInstalled hold.project start (file_at start)))) }
     ensures released { OfTold (T.meaning tree.old) (λ _. is_free_result result ≡ false → OfTold (T.meaning tree.new) (λ u. map.get u (work_path hold.project) ≡ None)) }
     ensures writes { OfTold (T.meaning tree.old) (λ t. (T.meaning tree.new).writes ≤ after_more (T.meaning tree.old).writes (files_written t work.job.parts)) }
+    ensures causes { IfErr result (λ refusal. IsTrue (is_of_tree refusal)) }
     ensures device { IsTrue (is_device_fault result) → Rose (T.meaning tree.old).faults (T.meaning tree.new).faults }
 {
     if work.job.parts.is_empty() {
@@ -287,6 +298,8 @@ pub fn end_work<T: Tree>(
     ensures released { OfTold (T.meaning tree.old) (λ _. is_free_result result ≡ false → OfTold (T.meaning tree.new) (λ u. map.get u (work_path hold.project) ≡ None)) }
     // At most one file is written for each that the parts put, and one for the journal.
     ensures writes { OfTold (T.meaning tree.old) (λ t. (T.meaning tree.new).writes ≤ after_more (T.meaning tree.old).writes (writes_of t made)) }
+    // No refusal is told for the words or by the output, where none was before.
+    ensures causes { IfErr made (λ refusal. IsTrue (is_of_tree refusal)) → IfErr result (λ refusal. IsTrue (is_of_tree refusal)) }
     // After a fault of the device that came before there is no call any more.
     ensures silent { made ≡ Err refusals.DeviceFault → T.meaning tree.new ≡ T.meaning tree.old }
     ensures device { IsTrue (is_device_fault result) → IsTrue (is_device_fault made) ⊎ Rose (T.meaning tree.old).faults (T.meaning tree.new).faults }

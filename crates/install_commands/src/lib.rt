@@ -10,6 +10,7 @@ mod work;
 
 pub use claimed::{claim_project, end_work};
 pub use recovering::recover;
+pub use refusals::refusal_of_staging;
 pub use work::Work;
 
 #[cfg(test)]

@@ -1,9 +1,9 @@
 //! Faults of the steps of an install as refusals.
 
-ghost use Rattle.std.specs.Prelude.{◌≡◌};
-ghost use Rattle.install_commands.specs.Refusals.{refusal_of_claim, refusal_of_commit, refusal_of_staging, refusal_of_walk, refusal_of_recovery};
+ghost use Rattle.std.specs.Prelude.{◌≡◌, IsTrue};
+ghost use Rattle.run_answers.specs.Faults.{is_of_tree};
+ghost use Rattle.install_commands.specs.Refusals.{refusal_of_claim, refusal_of_commit, refusal_of_staging, refusal_of_recovery};
 
-use class_walk::WalkFault;
 use install_world::RecoverFault;
 use run_answers::{Place, Refusal};
 use stage_job::StageFault;
@@ -31,9 +31,10 @@ pub fn refusal_of_commit(fault: CommitFault) -> Refusal
     }
 }
 
-/// Why a job is not staged.
+/// Why a job is not staged, or its files can't be copied: each fault as the refusal of the same name.
 pub fn refusal_of_staging(fault: StageFault) -> Refusal
-    ensures { result ≡ refusal_of_staging fault }
+    ensures value { result ≡ refusal_of_staging fault }
+    ensures causes { IsTrue (is_of_tree result) }
 {
     match fault {
         StageFault::MissingPath(text) => Refusal::MissingPath(text),
@@ -42,20 +43,6 @@ pub fn refusal_of_staging(fault: StageFault) -> Refusal
         StageFault::Vanished(at) => Refusal::Vanished(Place::Entry(at)),
         StageFault::DeviceFault => Refusal::DeviceFault,
         StageFault::OutOfMemory => Refusal::OutOfMemory,
-    }
-}
-
-/// Why classes are not found.
-pub fn refusal_of_walk(fault: WalkFault) -> Refusal
-    ensures { result ≡ refusal_of_walk fault }
-{
-    match fault {
-        WalkFault::ClassmapMissing(at) => Refusal::ClassmapMissing(at),
-        WalkFault::OtherEntry(at) => Refusal::OtherEntry(at),
-        WalkFault::Limit(limit) => Refusal::Limit(limit),
-        WalkFault::Vanished(at) => Refusal::Vanished(Place::Entry(at)),
-        WalkFault::DeviceFault => Refusal::DeviceFault,
-        WalkFault::OutOfMemory => Refusal::OutOfMemory,
     }
 }
 

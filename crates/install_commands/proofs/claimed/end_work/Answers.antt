@@ -1,11 +1,11 @@
 use Rattle.std.proofs.Common.{◌≡◌, ℕ, List, Result, sym, subst, inr}
-use Rattle.std.specs.Prelude.{IsTrue, ◌⊎◌}
+use Rattle.std.specs.Prelude.{IsTrue, IfErr, ◌⊎◌}
 use Rattle.std.proofs.lemmas.Result.{on_ok_weaker}
 use Rattle.tree_dev.specs.Device.{Rose}
 use Rattle.tree_dev.specs.Projects.{file_at}
 use Rattle.tree_dev.specs.Steady.{EachImage, Through}
 use Rattle.install_world.specs.InFlight.{IsInFlight}
-use Rattle.run_answers.specs.Faults.{is_device_fault}
+use Rattle.run_answers.specs.Faults.{is_device_fault, is_of_tree}
 use Rattle.run_answers.specs.Steps.{Tells}
 use Rattle.run_answers.specs.declared.refusal.Refusal.{Refusal}
 use Rattle.run_answers.specs.declared.refusal.Refusal.TheVariants.{DeviceFault}
@@ -87,3 +87,12 @@ returns-in-Ok-clause-writes g c = λ t told.
 pub returns-in-Err-clause-writes : goal.returns-in-Err-clause-writes
 returns-in-Err-clause-writes g c = λ t told.
     none_written (g.T.Tree.meaning c.args.tree.now).writes (g.T.Tree.meaning c.release_refused.new.tree).writes (writes_of t c.args.made) c.release_refused.ensures.writes
+
+-- ---- what a refusal is not told for
+
+pub returns-in-Ok-clause-causes : goal.returns-in-Ok-clause-causes
+returns-in-Ok-clause-causes g c = λ causes. c.end_made.ensures.causes
+
+pub returns-in-Err-clause-causes : goal.returns-in-Err-clause-causes
+returns-in-Err-clause-causes g c = λ causes.
+    c.release_refused.ensures.causes (subst (λ (made : Result Work Refusal). IfErr made (λ refusal. IsTrue (is_of_tree refusal))) c.in-Err.is causes)

@@ -15,13 +15,13 @@ returns-in-Ok-clause-told g c = λ t told. ap or_not_staged (c.in-Ok.ensures.exa
 pub returns-in-Err-clause-told : goal.returns-in-Err-clause-told
 returns-in-Err-clause-told g c = λ t told.
     let wanted = job_checked c.args.hold.now.project t c.args.work.now.job.parts c.args.left.now.left in
-    subst (λ (r : Refusal). IsTrue (is_free r) ⊎ (or_not_staged wanted ≡ Err r)) (sym c.refusal_of_staging.ensures)
+    subst (λ (r : Refusal). IsTrue (is_free r) ⊎ (or_not_staged wanted ≡ Err r)) (sym c.refusal_of_staging.ensures.value)
     (staging_told wanted c.in-Err.fault (c.in-Err.ensures.exact t told))
 
 pub returns-in-Err-clause-staging : goal.returns-in-Err-clause-staging
 returns-in-Err-clause-staging g c =
     subst (λ (failed : Bool). Staging c.args.hold.now.project (g.T.Tree.meaning c.args.tree.now) (g.T.Tree.meaning c.stage.new.tree) failed)
-    (staging_device c.in-Err.fault ∙ ap is_of_device (sym c.refusal_of_staging.ensures)) c.in-Err.ensures.staging
+    (staging_device c.in-Err.fault ∙ ap is_of_device (sym c.refusal_of_staging.ensures.value)) c.in-Err.ensures.staging
 
 pub returns-in-Ok-clause-writes : goal.returns-in-Ok-clause-writes
 returns-in-Ok-clause-writes g c = λ t told. at_most_staged _ _ _ (c.in-Ok.ensures.writes t told)
