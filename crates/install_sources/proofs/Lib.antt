@@ -1,0 +1,4 @@
+pub mod WholeSets
+pub mod PackagePaths
+pub mod PlacedEach
+pub mod LockEntries

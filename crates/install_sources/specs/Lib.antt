@@ -1,0 +1,4 @@
+pub mod Folders
+pub mod Lines
+pub mod Sources
+pub mod Verdicts
