@@ -1,9 +1,11 @@
 -- What a run does to the tree, by the words and the answer.
-use Rattle.std.proofs.Common.{◌≡◌, ◌≢◌, ◌⊎◌, ℕ, Bool, true, false, List, Result, Ok, Err, IsTrue, refl, sym, ap, subst, ◌∙◌, inl, inr}
+use Rattle.std.proofs.Common.{◌≡◌, ◌≢◌, ◌⊎◌, ℕ, Bool, true, false, List, Some, Result, Ok, Err, IsTrue, refl, sym, ap, subst, ◌∙◌, inl, inr}
 use Rattle.std.proofs.lemmas.Bool.{false≢true}
+use Rattle.tree_dev.specs.Trees.{FileTree}
 use Rattle.tree_dev.specs.Device.{Meaning, OnlyRead, Rose, only_read_refl}
+use Rattle.tree_dev.specs.Disk.{reading}
 use Rattle.tree_dev.proofs.Stretches.{through_from}
-use Rattle.install_world.specs.InFlight.{IsInFlight}
+use Rattle.install_world.specs.InFlight.{IsFinishedProject, IsInFlight}
 use Rattle.install_commands.specs.Recovering.{Recovers}
 use Rattle.run_answers.specs.Faults.{is_device_fault, is_free, is_of_device}
 use Rattle.run_answers.specs.declared.refusal.Refusal.{Refusal}
@@ -22,7 +24,7 @@ not_memory : (refusal : Refusal) → is_free refusal ≡ false → refusal ≢ r
 not_memory refusal other same = false≢true (sym other ∙ ap is_free same)
 
 module _ (choice : Result Chosen Refusal) (refusal : Refusal) (given : refusal ≢ refusals.OutOfMemory → choice ≡ Err refusal) where
-  module _ (m : Meaning) (no_device : is_of_device refusal ≡ false) where
+  module _ (m : Meaning) (no_device : is_of_device refusal ≡ false) (reads : (t : FileTree) → m.told ≡ Some t → t ≡ reading m.disks.now) where
     stays : OnlyRead m m (is_of_device refusal)
     stays = subst (λ (failed : Bool). OnlyRead m m failed) (sym no_device) (only_read_refl m)
 
@@ -30,6 +32,9 @@ module _ (choice : Result Chosen Refusal) (refusal : Refusal) (given : refusal �
     not_recovered project free = record {
       recovers = record {
         through = λ t told surroundings old new each. through_from (IsInFlight project surroundings old new) m each;
+        again = λ t told files is. subst (λ (u : FileTree). IsFinishedProject project u files) (reads t told) is;
+        ends = λ t told surroundings old new files each leads. through_from (λ (left : FileTree). IsFinishedProject project left files) m leads;
+        only = λ done. absurd (false≢true done);
         finished = λ done. absurd (false≢true done);
         settled = λ done. absurd (false≢true done);
         gone = λ done. absurd (false≢true done);
@@ -113,6 +118,9 @@ pub recovers_as : (project : List (List ℕ)) (before now : Meaning) {done other
     → Recovers project before now other
 recovers_as project before now recovers from = record {
   through = recovers.through;
+  again = recovers.again;
+  ends = recovers.ends;
+  only = λ done. recovers.only (from done);
   finished = λ done. recovers.finished (from done);
   settled = λ done. recovers.settled (from done);
   gone = λ done. recovers.gone (from done);

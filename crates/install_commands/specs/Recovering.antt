@@ -6,8 +6,10 @@ use Rattle.tree_dev.specs.Device.{Meaning, OfTold}
 use Rattle.tree_dev.specs.Disk.{reading}
 use Rattle.tree_dev.specs.Projects.{journal_path, work_path}
 use Rattle.tree_dev.specs.Steady.{EachImage, Through}
-use Rattle.install_world.specs.InFlight.{Files, HasFiles, IsFinishedProject, IsInFlight, IsThere}
-use Rattle.install_world.specs.Recovery.{HasBadJournal, IsLong, IsOtherEntry, IsRecovered, recovered_in}
+use Rattle.install_world.specs.Finishing.{KeepsFinished, StopsAt}
+use Rattle.install_world.specs.InFlight.{Files, HasFiles, HasJournal, IsFinishedProject, IsInFlight, IsThere}
+use Rattle.install_world.specs.declared.journal.Journal.{Journal}
+use Rattle.install_world.specs.Recovery.{CanBeFinished, HasBadJournal, IsLong, IsOtherEntry, IsRecovered, recovered_in}
 use Rattle.tree_dev.specs.declared.limits.LimitKind.TheVariants.{FileBytes}
 use Rattle.install_world.specs.declared.recovery_fault.Recovered.{Recovered}
 use Rattle.install_world.specs.declared.recovery_fault.Recovered.TheVariants as did
@@ -22,11 +24,17 @@ recovery_line did.NothingToDo = codes "nothing to do" ++ 10 ∷ []
 recovery_line did.Removed = codes "removed" ++ 10 ∷ []
 recovery_line did.Finished = codes "finished" ++ 10 ∷ []
 
+-- Another kind of entry stands at a path than is needed there. Of a journal that stands the parts before one are done, and that
+-- one and those behind it are as they were.
+pub record StandsInTheWay (project path : List (List ℕ)) (t : FileTree) (now : Meaning) : Type 0 where
+  pub other : OfTold now (IsOtherEntry project path)
+  pub stops : (journal : Journal) → HasJournal project t journal → (number : ℕ) × StopsAt project journal number t (reading now.disks.now)
+
 -- With what recovery is refused over a tree t, where it leaves what is told afterwards: the journal is bad at that place, or it
 -- is too long; or another kind of entry stands where a folder or a file is needed. Nothing vanishes.
 abbrev pub IsRecoveryRefused : List (List ℕ) → FileTree → Meaning → Refusal → Type 0
 IsRecoveryRefused project t now (refusals.BadJournal place) = HasBadJournal project t place
-IsRecoveryRefused project t now (refusals.OtherEntry path) = OfTold now (IsOtherEntry project path)
+IsRecoveryRefused project t now (refusals.OtherEntry path) = StandsInTheWay project path t now
 IsRecoveryRefused project t now (refusals.Limit limit) = (limit ≡ FileBytes (journal_path project)) × IsLong (journal_path project) t
 IsRecoveryRefused project t now _ = ⊥
 
@@ -43,11 +51,17 @@ is_unread (Err refusal) = nat_eq (status_of refusal) 11 || nat_eq (status_of ref
 -- ---- what it does
 
 -- What recovery does to a tree. Where all images are in flight from an old project to a new one, they are so at each moment.
--- Where it is done, the project is the finished one of the tree as it read, in each image too where `.install` was there, and
--- nothing is at `.install`.
+-- Whatever it answers, the project that it leads to stays the same, so it can be run again; and where all images are in flight and
+-- lead to one same project, they do so at each moment, so it can be cut off. It is done only where `.install` is a folder or absent
+-- and a journal that stands says one; and then the project is the finished one of the tree as it read, in each image too where
+-- `.install` was there, and nothing is at `.install`.
 pub record Recovers (project : List (List ℕ)) (before now : Meaning) (done : Bool) : Type 0 where
   pub through : OfTold before (λ t. (surroundings : FileTree) (old new : Files) → EachImage before (IsInFlight project surroundings old new)
       → Through before now (IsInFlight project surroundings old new))
+  pub again : OfTold before (λ t. KeepsFinished project t (reading now.disks.now))
+  pub ends : OfTold before (λ t. (surroundings : FileTree) (old new files : Files) → EachImage before (IsInFlight project surroundings old new)
+      → EachImage before (λ left. IsFinishedProject project left files) → Through before now (λ left. IsFinishedProject project left files))
+  pub only : IsTrue done → OfTold before (CanBeFinished project)
   pub finished : IsTrue done → OfTold before (λ t. (files : Files) → IsFinishedProject project t files → HasFiles project (reading now.disks.now) files)
   pub settled : IsTrue done → OfTold before (λ t. IsThere t (work_path project) → (files : Files) → IsFinishedProject project t files
       → EachImage now (IsRecovered project files))

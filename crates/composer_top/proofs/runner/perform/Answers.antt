@@ -8,4 +8,5 @@ use Rattle.composer_top.proofs.runner.perform.Goals as goal
 pub returns-in_err-chosen-clause-performs : goal.returns-in_err-chosen-clause-performs
 returns-in_err-chosen-clause-performs g c =
     let p = err_from_is_err_and c.from_residual.result c.from_residual.ensures.1 in
-    rw (p.1, p.2) (not_begun (chosen_in (map string_bytes c.args.words.now)) _ c.in_err-chosen.ensures.value _ c.in_err-chosen.ensures.no_device)
+    rw (p.1, p.2) (not_begun (chosen_in (map string_bytes c.args.words.now)) _ c.in_err-chosen.ensures.value _ c.in_err-chosen.ensures.no_device
+    (λ t told. (g.met.T.Tree.tells_its_disk c.args.tree.now t told).reads))
