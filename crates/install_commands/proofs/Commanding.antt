@@ -1,5 +1,5 @@
 -- A claim, a work that only reads, and its end, put together.
-use Rattle.std.proofs.Common.{◌≡◌, ℕ, Bool, false, List, Option, Some, None, Result, Ok, Err, IsTrue, refl, sym, ap, subst, ◌∙◌, inl, inr, arith}
+use Rattle.std.proofs.Common.{◌≡◌, ℕ, Bool, false, List, Some, None, Result, Ok, Err, IsTrue, refl, sym, ap, subst, ◌∙◌, inl, inr, arith}
 use Rattle.std.specs.Prelude.{◌⊎◌, ◌≤◌, IfErr, IsErrAnd, OnOk}
 use Rattle.std.specs.FinMap as map
 use Rattle.std.proofs.lemmas.Bool.{false≢true}
@@ -10,7 +10,7 @@ use Rattle.tree_dev.specs.Projects.{file_at, work_path}
 use Rattle.tree_dev.specs.Steady.{EachImage, IsSteadily, Steady, Through}
 use Rattle.tree_dev.proofs.SteadyRules.{steady_on, steady_same}
 use Rattle.tree_dev.proofs.Stretches.{through_ends, through_on}
-use Rattle.install_world.specs.InFlight.{Files, IsInFlight}
+use Rattle.install_world.specs.InFlight.{IsInFlight}
 use Rattle.install_world.proofs.PartDone.{told_still}
 use Rattle.stage_job.specs.Staged.{KeepsTelling}
 use Rattle.stage_job.specs.Written.{after_more}
@@ -31,9 +31,9 @@ on_ok : {P Q : Type 0} (r : Result (List ℕ) Refusal) → (P → Q) → OnOk r 
 on_ok (Ok x) f p = f p
 on_ok (Err e) f p = tt
 
-swap_err : {P Q : Type 0} (r : Result (List ℕ) Refusal) → (P → IfErr r (λ refusal. is_free refusal ≡ false → Q)) → IfErr r (λ refusal. is_free refusal ≡ false → P → Q)
-swap_err (Ok x) f = tt
-swap_err (Err e) f = λ other p. f p other
+swap_err : {P : Type 0} (Q : Type 0) (r : Result (List ℕ) Refusal) → (P → IfErr r (λ refusal. is_free refusal ≡ false → Q)) → IfErr r (λ refusal. is_free refusal ≡ false → P → Q)
+swap_err Q (Ok x) f = tt
+swap_err Q (Err e) f = λ other p. f p other
 
 claimed_and_not : {P : Type 0} (c : Result (Unit {0}) Refusal) (refusal : Refusal) → c ≡ Ok tt → c ≡ Err refusal → P
 claimed_and_not c refusal passes refuses = absurd (let both : ◌≡◌ {A = Result (Unit {0}) Refusal} (Ok tt) (Err refusal) = sym passes ∙ refuses in cc)
@@ -174,7 +174,7 @@ module _ (IsMade : FileTree → ℕ → Result Work Refusal → Type 0) (project
     told = subst (λ (wanted : Result (List ℕ) Refusal). Tells (λ lines. lines) wanted result) (sym same_outcome) (tells_it (with_claim project t) told_d);
     through = move moves;
     settled = on_ok result settle settles;
-    refused = swap_err result (stay stays);
+    refused = swap_err (EachImage e (IsInstalled project t (file_at t))) result (stay stays);
     released = λ passed other. releases (with_claim project t) told_d other;
     unclaimed = λ refusal refuses_it other. claimed_and_not (claim_in t project) refusal passes refuses_it;
     writes = subst (λ (written : ℕ). e.writes ≤ after_more written (writes_of (with_claim project t) made)) (read.writes ∙ wrote) (writes_it (with_claim project t) told_d);
