@@ -1,0 +1,9 @@
+pub mod PoolFaults
+pub mod Sequencing
+pub mod Steps
+pub mod Documented
+pub mod PoolRoots
+pub mod Warned
+pub mod NoPlans
+pub mod Updates
+pub mod MetLocks

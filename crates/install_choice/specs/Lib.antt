@@ -1,0 +1,6 @@
+pub mod Refusals
+pub mod Sequences
+pub mod Planning
+pub mod Choosing
+pub mod Warnings
+pub mod LockLaws
