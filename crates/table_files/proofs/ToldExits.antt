@@ -1,5 +1,5 @@
 -- What is told where a `?` passes a refusal on.
-use Rattle.std.proofs.Common.{◌≡◌, Bool, Result, Ok, Err, IsTrue, refl, sym, subst}
+use Rattle.std.proofs.Common.{◌≡◌, Result, Ok, Err, IsTrue, sym, subst}
 use Rattle.std.specs.Prelude.{◌⊎◌, IsErrAnd}
 use Rattle.run_answers.specs.Faults.{is_free}
 use Rattle.run_answers.specs.Steps.{Tells, TellsOne}

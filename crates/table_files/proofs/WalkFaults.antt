@@ -1,5 +1,5 @@
 -- Faults of walks, as refusals.
-use Rattle.std.proofs.Common.{◌≡◌, Ok, Err, IsTrue, refl, ap, inl, inr}
+use Rattle.std.proofs.Common.{◌≡◌, Err, IsTrue, refl, ap, inl, inr}
 use Rattle.std.specs.Prelude.{◌⊎◌, Result}
 use Rattle.class_walk.specs.Faults as walks
 use Rattle.class_walk.specs.Walks.{Walked}

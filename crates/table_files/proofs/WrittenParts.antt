@@ -1,5 +1,5 @@
 -- The files that are written, as parts of a job.
-use Rattle.std.proofs.Common.{◌≡◌, ℕ, Bool, true, false, cond, List, [], ◌∷◌, ◌++◌, codes, Option, Some, None, refl, ap, inr}
+use Rattle.std.proofs.Common.{◌≡◌, ℕ, Bool, false, cond, List, [], ◌∷◌, ◌++◌, codes, Option, Some, None, refl, ap, inr}
 use Rattle.std.specs.Prelude.{◌≢◌}
 use Rattle.path_name.specs.Orders.{bytes_are_equal}
 use Rattle.stage_job.specs.Jobs.{AreApart, AreParts, IsTarget, IsTargetApart}

@@ -7,7 +7,6 @@ use Rattle.tree_dev.specs.declared.limits.LimitKind.TheVariants.{FileBytes}
 use Rattle.stage_job.specs.declared.job.Part.{Part}
 use Rattle.stage_job.specs.declared.job.Source.TheVariants.{Bytes}
 use Rattle.table_scan.specs.TableFaults as grammar
-use Rattle.table_scan.specs.declared.types.TableFile.{TableFile}
 use Rattle.table_scan.specs.declared.types.TableFile.TheVariants as files
 use Rattle.table_scan.specs.declared.types.TableTexts.{TableTexts}
 use Rattle.table_scan.specs.declared.types.Tables.{Tables}

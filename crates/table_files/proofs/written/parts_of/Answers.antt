@@ -1,9 +1,9 @@
-use Rattle.std.proofs.Common.{◌≡◌, ◌++◌, List, Ok, Global, Vec, sym, ap, ◌∙◌}
+use Rattle.std.proofs.Common.{◌++◌, List, Global, Vec, sym, ap, ◌∙◌}
 use Rattle.std.proofs.lemmas.List.{map-id}
 use Rattle.std.proofs.lemmas.Iterator.Adapters.{YieldsList-from_vec}
 use Rattle.std.proofs.lemmas.Iterator.Consumers.{YieldsList-end, YieldsList-so_far, YieldsList-turn}
 use Rattle.stage_job.specs.declared.job.Part.{Part}
-use Rattle.table_files.specs.Written.{part_of, parts_in, parts_of}
+use Rattle.table_files.specs.Written.{part_of, parts_in}
 use Rattle.table_files.proofs.ToldExits.{told_exit}
 use Rattle.table_files.proofs.CheckedFiles.{all_parts, checked_more, parts_more, stops_parts}
 use Rattle.table_files.proofs.Yielded.{split_here}
