@@ -1,4 +1,3 @@
 pub mod Endings
 pub mod Performed
-pub mod WholeSets
 pub mod WordsFirst

@@ -1,57 +1,24 @@
 //! The command `check`.
 
 ghost use Rattle.std.specs.Prelude.{◌≡◌, false, IsTrue, IfOk, IfErr};
-ghost use Rattle.std.specs.List.{range_with_len};
 ghost use Rattle.tree_dev.specs.Device.{OnlyRead, OfTold};
 ghost use Rattle.plan_rules.specs.Validity.{verdict_of};
 ghost use Rattle.run_answers.specs.Faults.{is_of_tree, is_device_fault};
 ghost use Rattle.run_answers.specs.Steps.{Tells};
 ghost use Rattle.composer_top.specs.Outcome.{IsFinding};
-ghost use Rattle.composer_top.specs.Outcome.Check.{whole, broken_rule_of, hash_line, check_report, compared, lock_compared, check_outcome};
+ghost use Rattle.install_sources.specs.Verdicts.{whole};
+ghost use Rattle.composer_top.specs.Outcome.Check.{hash_line, check_report, compared, lock_compared, check_outcome};
 
 use crate::report::Report;
+use install_sources::{broken_rule_of, verdict_of};
 use lock_file::Lock;
-use path_name::{Items, Path, Text};
+use path_name::{Path, Text};
 use pkg_pool::Pool;
-use plan_rules::{Rule, Selection, Verdict};
+use plan_rules::Verdict;
 use project_files::{ProjectManifest, pool_of, project_lock, project_manifest};
-use run_answers::{BrokenRule, Refusal, put_rule};
+use run_answers::{Refusal, put_rule};
 use std::alloc::{AllocError, Global};
 use tree_dev::Tree;
-
-/// The first numbers. No memory holds more than 2^32 packages.
-fn first_numbers(alloc: Global, count: usize) -> Result<Vec<u32>, AllocError>
-    ensures { IfOk result (λ numbers. numbers.items ≡ range_with_len 0 count) }
-{
-    let mut numbers = Vec::with_capacity(alloc, count)?;
-    for at in 0..count {
-        match u32::try_from(at) {
-            Ok(number) => numbers.push(number)?,
-            Err(_) => return Err(AllocError),
-        }
-    }
-    Ok(numbers)
-}
-
-/// Whether all packages of a pool together are a valid plan, or the first rule that they break.
-fn verdict_of(alloc: Global, pool: &Pool) -> Result<Verdict, AllocError>
-    ensures { IfOk result (λ verdict. verdict ≡ verdict_of pool.now (whole pool.now)) }
-{
-    let members = Items::of(first_numbers(alloc, pool.candidates.as_slice().len())?);
-    plan_rules::check(alloc, pool, &Selection { members })
-}
-
-fn broken_rule_of(rule: Rule) -> BrokenRule
-    ensures { result ≡ broken_rule_of rule }
-{
-    match rule {
-        Rule::NotAllowed(name) => BrokenRule::NotAllowed(name),
-        Rule::TwoOwners(name, one, other) => BrokenRule::TwoOwners(name, one, other),
-        Rule::Unmet(from, name) => BrokenRule::Unmet(from, name),
-        Rule::Conflict(from, name, other) => BrokenRule::Conflict(from, name, other),
-        Rule::Platform(from, name) => BrokenRule::Platform(from, name),
-    }
-}
 
 /// Whether a lock is that of the manifest as it is now.
 #[tactic(auto, unfolding(crate::specs::Outcome::Check::hash_line))]

@@ -1,19 +1,13 @@
 -- The outcome of `check`: whether the lock is that of the manifest as it is now, and whether its packages are a valid plan
 -- for it, or the first refusal.
-use Rattle.std.specs.Prelude.{ℕ, List, [], ◌∷◌, ◌++◌, map, codes, Bool, true, if◌then◌else◌, Option, Some, None, Result, Ok}
+use Rattle.std.specs.Prelude.{ℕ, List, [], ◌∷◌, ◌++◌, codes, Bool, if◌then◌else◌, Option, Some, None, Result, Ok}
 use Rattle.path_name.specs.Given.{◌>>=◌}
 use Rattle.path_name.specs.Orders.{bytes_are_equal}
 use Rattle.tree_dev.specs.Trees.{FileTree}
-use Rattle.pkg_pool.specs.declared.pool.Pool.{Pool}
-use Rattle.plan_rules.specs.Sets.{Chosen}
 use Rattle.plan_rules.specs.Validity.{verdict_of}
-use Rattle.plan_rules.specs.declared.rule.Rule.{Rule}
-use Rattle.plan_rules.specs.declared.rule.Rule.TheVariants as rules
 use Rattle.plan_rules.specs.declared.rule.Verdict.{Verdict}
 use Rattle.plan_rules.specs.declared.rule.Verdict.TheVariants as verdicts
 use Rattle.run_answers.specs.Messages.{rule_text}
-use Rattle.run_answers.specs.declared.refusal.BrokenRule.{BrokenRule}
-use Rattle.run_answers.specs.declared.refusal.BrokenRule.TheVariants as broken
 use Rattle.run_answers.specs.declared.refusal.Refusal.{Refusal}
 use Rattle.run_answers.specs.declared.refusal.Refusal.TheVariants as refusals
 use Rattle.lock_file.specs.declared.types.Lock.{Lock}
@@ -21,18 +15,7 @@ use Rattle.composer_top.specs.declared.report.Report.{Report}
 use Rattle.project_files.specs.declared.manifests.ProjectManifest.{ProjectManifest}
 use Rattle.project_files.specs.ProjectManifest.{project_manifest_in}
 use Rattle.project_files.specs.ProjectLock.{project_lock_in, pool_in}
-
--- the set of all candidates
-abbrev pub whole : Pool → Chosen
-whole pool = map (λ candidate. true) pool.candidates
-
--- a rule with the names that are printed
-abbrev pub broken_rule_of : Rule → BrokenRule
-broken_rule_of (rules.NotAllowed name) = broken.NotAllowed name
-broken_rule_of (rules.TwoOwners name one other) = broken.TwoOwners name one other
-broken_rule_of (rules.Unmet from name) = broken.Unmet from name
-broken_rule_of (rules.Conflict from name other) = broken.Conflict from name other
-broken_rule_of (rules.Platform from name) = broken.Platform from name
+use Rattle.install_sources.specs.Verdicts.{broken_rule_of, whole}
 
 -- whether the lock was made for a manifest of this hash
 unfoldable pub hash_line : Bool → List ℕ
