@@ -1,5 +1,5 @@
 -- What a composer.json that was read says, and its hash, can be written.
-use Rattle.std.proofs.Common.{◌≡◌, ℕ, zero, suc, ◌/◌, ◌%◌, Bool, true, false, ◌&&◌, List, [], ◌∷◌, Result, Ok, Err, refl, sym, ap, subst}
+use Rattle.std.proofs.Common.{◌≡◌, ℕ, zero, suc, ◌/◌, ◌%◌, Bool, true, false, ◌&&◌, List, [], ◌∷◌, Result, Ok, Err, refl, ap, subst}
 use Rattle.std.specs.Prelude.{slice_index}
 use Rattle.std.specs.List.{list_all}
 use Rattle.std.specs.Str.{IsUtf8}
@@ -7,7 +7,6 @@ use Rattle.hex.specs.Hex.{encode_with, lower_digits}
 use Rattle.md5.specs.Md5.{md5}
 use Rattle.content_hash.specs.HashedText.{hashed_text_of}
 use Rattle.content_hash.specs.Ids.{id_of}
-use Rattle.path_name.specs.Given.{◌>>=◌}
 use Rattle.tree_dev.specs.Trees.{FileTree}
 use Rattle.json_ordered.specs.JsonTree.{JsonTree}
 use Rattle.json_ordered.specs.JsonFaults.{json_of}
@@ -23,7 +22,6 @@ use Rattle.manifest_read.specs.declared.types.Role.TheVariants.{Root}
 use Rattle.manifest_read.proofs.NameBytes.{is_low, low_utf8}
 use Rattle.run_answers.specs.declared.refusal.NamedFile.TheVariants as files
 use Rattle.run_answers.specs.declared.refusal.NamedFile.{NamedFile}
-use Rattle.run_answers.specs.declared.refusal.Refusal.{Refusal}
 use Rattle.project_files.specs.Documents.{document_in, or_bad_fields, or_no_document}
 use Rattle.project_files.specs.ProjectManifest.{manifest_of_text, manifest_text_in, project_manifest_in, root_in}
 use Rattle.project_files.specs.declared.manifests.ProjectManifest.{ProjectManifest}

@@ -1,16 +1,13 @@
 -- The lock that stands, from which `install` takes its packages.
-use Rattle.std.proofs.Common.{◌≡◌, ℕ, true, List, Option, Some, None, Result, Ok, Err, refl, sym, ap, ◌∙◌, subst}
+use Rattle.std.proofs.Common.{◌≡◌, ℕ, true, List, Option, Some, None, Ok, refl, sym, ap, subst}
 use Rattle.std.specs.Prelude.{is_none}
 use Rattle.std.specs.Option.{option_map_or}
-use Rattle.path_name.specs.Given.{◌>>=◌}
 use Rattle.tree_dev.specs.Trees.{FileTree}
 use Rattle.lock_file.specs.declared.types.Lock.{Lock}
 use Rattle.pkg_pool.specs.declared.pool.Pool.{Pool}
 use Rattle.plan_rules.specs.Validity.{first_broken, is_valid}
 use Rattle.plan_rules.specs.declared.rule.Rule.{Rule}
-use Rattle.plan_rules.specs.declared.rule.Verdict.{Verdict}
 use Rattle.plan_rules.specs.declared.rule.Verdict.TheVariants as verdicts
-use Rattle.run_answers.specs.declared.refusal.Refusal.{Refusal}
 use Rattle.project_files.specs.ProjectLock.{pool_in}
 use Rattle.project_files.specs.ProjectManifest.{project_manifest_in}
 use Rattle.project_files.specs.declared.manifests.ProjectManifest.{ProjectManifest}

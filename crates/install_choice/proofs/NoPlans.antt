@@ -1,5 +1,5 @@
 -- Reading composer.json and the repositories never answers that there is no plan.
-use Rattle.std.proofs.Common.{◌≡◌, ℕ, List, Option, Some, None, Result, Ok, Err, refl, sym, ap, ◌∙◌}
+use Rattle.std.proofs.Common.{◌≡◌, ℕ, List, Option, Some, None, Result, Ok, Err}
 use Rattle.tree_dev.specs.Trees.{FileTree, read_at}
 use Rattle.tree_dev.specs.declared.limits.TheConstants.{FILE_BYTES}
 use Rattle.tree_dev.specs.declared.entry.ReadAnswer.{ReadAnswer}
@@ -19,13 +19,13 @@ use Rattle.run_answers.specs.declared.refusal.NamedFile.{NamedFile}
 use Rattle.run_answers.specs.declared.refusal.NamedFile.TheVariants as files
 use Rattle.run_answers.specs.declared.refusal.Refusal.{Refusal}
 use Rattle.run_answers.specs.declared.refusal.Refusal.TheVariants as refusals
-use Rattle.project_files.specs.Documents.{document_in, or_bad_fields, or_no_document, refusal_of_fields, refusal_of_json}
+use Rattle.project_files.specs.Documents.{document_in, or_bad_fields, or_no_document}
 use Rattle.project_files.specs.Places.{manifest_place}
 use Rattle.project_files.specs.ProjectManifest.{manifest_of_text, manifest_text_in, or_no_manifest, project_manifest_in, root_in}
 use Rattle.project_files.specs.Texts.{text_in, text_of}
 use Rattle.project_files.specs.declared.manifests.ProjectManifest.{ProjectManifest}
-use Rattle.install_choice.specs.Refusals.{or_not_loaded, refusal_of_pool}
-use Rattle.install_choice.proofs.Steps.{neither, same_refusal}
+use Rattle.install_choice.specs.Refusals.{or_not_loaded}
+use Rattle.install_choice.proofs.Steps.{neither}
 
 abbrev IsNoPlan : {X : Type 0} → Result X Refusal → Type 0
 IsNoPlan r = r ≡ Err refusals.NoPlan

@@ -1,5 +1,5 @@
 -- Faults of reading the packages of repositories, as refusals.
-use Rattle.std.proofs.Common.{◌≡◌, Result, Ok, Err, IsTrue, refl, ap, inl, inr}
+use Rattle.std.proofs.Common.{◌≡◌, Result, Err, IsTrue, refl, ap, inl, inr}
 use Rattle.std.specs.Prelude.{◌⊎◌}
 use Rattle.pkg_pool.specs.Outcomes as pools
 use Rattle.pkg_pool.specs.declared.fault.PoolFault.{PoolFault}

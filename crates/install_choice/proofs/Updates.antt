@@ -1,10 +1,9 @@
 -- What `update` chooses, and `install` without a lock.
-use Rattle.std.proofs.Common.{◌≡◌, ◌≢◌, ℕ, Bool, true, false, List, length, Some, None, Option, Result, Ok, Err, refl, sym, ap, ◌∙◌, subst, inl, inr}
+use Rattle.std.proofs.Common.{◌≡◌, ℕ, Bool, true, false, List, length, None, Result, Ok, Err, refl, sym, ap, ◌∙◌, subst, inl, inr}
 use Rattle.std.specs.Prelude.{◌⊎◌}
 use Rattle.std.proofs.lemmas.Bool.{false≢true}
 use Rattle.tree_dev.specs.Trees.{FileTree}
 use Rattle.lock_file.proofs.KeptLocks.{text_of}
-use Rattle.lock_file.specs.LockText.{lock_text}
 use Rattle.lock_file.specs.declared.types.Lock.{Lock}
 use Rattle.manifest_read.specs.declared.types.Manifest.{Manifest}
 use Rattle.pkg_pool.specs.Pools.{Loaded, pool_of_tree}
@@ -22,10 +21,10 @@ use Rattle.install_choice.specs.Choosing.{IsChosenAnew, IsChosenFor, IsChosenToI
 use Rattle.install_choice.specs.LockLaws.{HasNewLock, HasNoValidSet, HasPool}
 use Rattle.install_choice.specs.Planning.{IsChosenByPlan, IsChosenFrom, IsChosenOf, IsLockOfPlan, IsNewChoice, IsWithLeft, new_choice}
 use Rattle.install_choice.specs.Refusals.{or_not_loaded}
-use Rattle.install_choice.specs.Sequences.{Follows, Is, Then}
+use Rattle.install_choice.specs.Sequences.{Follows, Is}
 use Rattle.install_choice.specs.declared.chosen.Chosen.{Chosen}
 use Rattle.install_choice.proofs.NoPlans.{manifest_plan, pool_plan}
-use Rattle.install_choice.proofs.Steps.{after, both_taken, one_stops, same_refusal, same_value}
+use Rattle.install_choice.proofs.Steps.{after, both_taken, one_stops, same_value}
 
 loaded_of : (r : Result Loaded PoolFault) (loaded : Loaded) → Ok loaded ≡ or_not_loaded r → r ≡ Ok loaded
 loaded_of (Ok other) loaded e = ap Ok (same_value other loaded (sym e))

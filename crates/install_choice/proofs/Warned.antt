@@ -1,5 +1,5 @@
 -- What is warned of.
-use Rattle.std.proofs.Common.{◌≡◌, ℕ, ◌≤◌, Bool, true, false, List, [], ◌++◌, Option, Some, None, Result, Ok, Err, refl, sym, ap, subst, inl, inr, append-nil, arith}
+use Rattle.std.proofs.Common.{◌≡◌, ℕ, Bool, true, false, List, [], ◌++◌, Option, Some, None, Result, Err, refl, sym, ap, inl, inr, append-nil, arith}
 use Rattle.std.specs.Prelude.{◌⊎◌, IsTrue, if◌then◌else◌}
 use Rattle.path_name.specs.Orders.{bytes_are_equal}
 use Rattle.std.specs.Option.{option_map}
@@ -7,7 +7,6 @@ use Rattle.tree_dev.specs.Sinks.{Taken, Takes}
 use Rattle.tree_dev.specs.Trees.{FileTree}
 use Rattle.lock_file.specs.declared.types.Lock.{Lock}
 use Rattle.run_answers.specs.Faults.{is_free}
-use Rattle.run_answers.specs.Steps.{Tells, is_free_result}
 use Rattle.run_answers.specs.declared.refusal.Refusal.{Refusal}
 use Rattle.project_files.specs.declared.manifests.ProjectManifest.{ProjectManifest}
 use Rattle.install_choice.specs.Warnings.{MayWarn, TakesText, stale_text, warning_after, warning_if, warning_of}

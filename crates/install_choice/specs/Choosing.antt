@@ -1,5 +1,5 @@
 -- Which packages `install` and `update` install (Composer's documentation, "Basic usage", "Installing dependencies").
-use Rattle.std.specs.Prelude.{◌≡◌, ℕ, List, Option, Some, None, Result, Ok, Err}
+use Rattle.std.specs.Prelude.{ℕ, List, Option, Some, None, Result, Ok}
 use Rattle.path_name.specs.Given.{◌>>=◌}
 use Rattle.tree_dev.specs.Projects.{lock_path}
 use Rattle.tree_dev.specs.Trees.{FileTree, kind_at}

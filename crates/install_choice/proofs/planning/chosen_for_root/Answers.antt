@@ -1,5 +1,5 @@
 use Rattle.std.specs.Prelude.{◌⊎◌, IsTrue}
-use Rattle.std.proofs.Common.{◌≡◌, Bool, Err, sym, ap, ◌∙◌, subst}
+use Rattle.std.proofs.Common.{Bool, Err, sym, ap, ◌∙◌, subst}
 use Rattle.tree_dev.specs.Device.{OnlyRead}
 use Rattle.manifest_read.specs.declared.types.Manifest.{Manifest}
 use Rattle.pkg_pool.specs.Pools.{Loaded, pool_of_tree}
