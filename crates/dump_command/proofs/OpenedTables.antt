@@ -1,0 +1,59 @@
+-- What tables that were built open.
+use Rattle.std.proofs.Common.{◌≡◌, ℕ, Bool, List, Result, Ok, Err, refl, sym, ap, subst, ◌∙◌}
+use Rattle.path_name.specs.Given.{◌>>=◌}
+use Rattle.tree_dev.specs.Trees.{FileTree}
+use Rattle.class_paths.specs.Search.{search_file}
+use Rattle.class_lookup.specs.Lookup.{lookup_in}
+use Rattle.class_walk.specs.Walks.{AreScansOf, Walked}
+use Rattle.class_walk.specs.declared.fault.WalkFault.{WalkFault}
+use Rattle.class_walk.specs.declared.job.Scanned.{Scanned}
+use Rattle.table_scan.specs.declared.types.Mode.{Mode}
+use Rattle.table_scan.specs.declared.types.Mode.TheVariants.{Plain}
+use Rattle.table_scan.specs.declared.types.Tables.{Tables}
+use Rattle.autoload_build.specs.Answers.{walks_of}
+use Rattle.autoload_build.specs.BuiltTables.{classes_of, tables_of}
+use Rattle.autoload_build.specs.Jobs.{Project, rows}
+use Rattle.run_answers.specs.declared.refusal.Refusal.{Refusal}
+use Rattle.table_files.specs.Modes.{next_generation}
+use Rattle.table_files.specs.NewTables.{AreNewTables, AreTablesOf, built_tables}
+use Rattle.table_files.specs.declared.building.NewTables.{NewTables}
+use Rattle.table_files.specs.declared.building.Setting.{Setting}
+use Rattle.dump_command.specs.Standing.{project_of}
+use Rattle.dump_command.specs.declared.standing.Standing.{Standing}
+
+module _ (t : FileTree) (p : Project) (setting : Setting) (left after : ℕ) (new : NewTables) where
+  made_with : (found : List Scanned) (rest : ℕ) (g : Result ℕ Refusal)
+      → ◌≡◌ {A = Result (NewTables × ℕ) Refusal} (Ok (new, after)) (g >>= λ generation. Ok (built_tables p setting.mode found generation, rest))
+      → new.tables ≡ tables_of p setting.mode new.generation found
+  made_with found rest (Ok generation) is =
+      let both : ◌≡◌ {A = NewTables × ℕ} (new, after) (built_tables p setting.mode found generation, rest) = cc in
+      ap (λ (z : NewTables × ℕ). z.0.tables) both ∙ ap (λ (n : ℕ). tables_of p setting.mode n found) (sym (ap (λ (z : NewTables × ℕ). z.0.generation) both))
+  made_with found rest (Err refusal) is = absurd cc
+
+  abbrev pub IsBuilt : Type 0
+  IsBuilt = (walked : Walked) × (found : List Scanned) × (walks_of t p setting.mode left ≡ Ok walked) × AreScansOf walked.found found × (new.tables ≡ tables_of p setting.mode new.generation found)
+
+  pub built_of : AreNewTables t p setting left (Ok (new, after)) → IsBuilt
+  unfolding AreNewTables
+  built_of are = by (walks_of t p setting.mode left) refl are
+    where
+      by : (w : Result Walked WalkFault) → walks_of t p setting.mode left ≡ w → AreTablesOf p setting w (Ok (new, after)) → IsBuilt
+      by (Ok walked) e made = (walked, made.0, e, made.1, made_with made.0 walked.left (next_generation setting.stands) made.2)
+      by (Err fault) e made = absurd cc
+
+-- Plain tables open what the rows and the listed classes say.
+pub plain_opens : ((p : Project) (generation : ℕ) (listed : List Scanned) (is_file : List (List ℕ) → Bool) (name : List ℕ)
+    → lookup_in (tables_of p Plain generation listed) is_file name ≡ search_file is_file (rows p) (classes_of listed) name)
+    → (project : List (List ℕ)) (t : FileTree) (left after : ℕ) (standing : Standing) (new : NewTables) (is_file : List (List ℕ) → Bool) (name : List ℕ)
+    → AreNewTables t (project_of project standing) standing.setting left (Ok (new, after)) → standing.setting.mode ≡ Plain
+    → (walked : Walked) × (found : List Scanned) × (walks_of t (project_of project standing) Plain left ≡ Ok walked) × AreScansOf walked.found found
+    × (lookup_in new.tables is_file name ≡ search_file is_file (rows (project_of project standing)) (classes_of found) name)
+plain_opens law project t left after standing new is_file name are plain =
+    let p = project_of project standing in
+    let b = built_of t p standing.setting left after new are in (
+      b.0,
+      b.1,
+      subst (λ (mode : Mode). walks_of t p mode left ≡ Ok b.0) plain b.2,
+      b.3,
+      ap (λ (tables : Tables). lookup_in tables is_file name) (b.4 ∙ ap (λ (mode : Mode). tables_of p mode new.generation b.1) plain) ∙ law p new.generation b.1 is_file name,
+    )
