@@ -20,9 +20,10 @@ use Rattle.class_lookup.specs.ClassNames.{class_name_of}
 use Rattle.composer_words.specs.Words.{command_of}
 use Rattle.composer_top.specs.Chosen.{or_refused}
 use Rattle.composer_top.specs.Outcome.Lookup as looking
-use Rattle.run_answers.specs.Steps.{TellsOne}
+use Rattle.run_answers.specs.Steps.{TellsOne, is_free_result}
+use Rattle.composer_top.proofs.Changing.{IsRefusedBy}
 use Rattle.install_commands.specs.Recovering.{is_unread}
-use Rattle.composer_top.specs.Outcome.{KeepsToWords, Outputs, Concluded, Ends, EndsByWords, EndsWithAnswer, IsFinding, is_done, is_unrefused, reply_to, refusal_in, task_refusal, refusal_of_choice, words_refusal}
+use Rattle.composer_top.specs.Outcome.{KeepsToWords, Outputs, Concluded, Ends, EndsByWords, EndsWithAnswer, IsFinding, is_done, is_free_status, is_unrefused, reply_to, refusal_in, task_refusal, refusal_of_choice, words_refusal}
 use Rattle.composer_top.specs.declared.report.Report.{Report}
 
 -- what a run ends with: its answer, or want of memory
@@ -255,6 +256,23 @@ module _ (outputs : Outputs) (status : ℕ) where
   unrefused (Err refusal) well free (inl (inr failed)) = ap is_unrefused failed.ended
   unrefused answer well free (inr (inl replied)) = ap is_unrefused replied.ended
   unrefused answer well free (inr (inr failed)) = ap is_unrefused failed.ended
+
+  -- a run that was neither done nor ended by the device or for want of memory has an answer that is refused
+  pub refused_answer : (answer : Result Report Refusal) → IfOk answer (λ report. report.end ≡ None)
+      → Told outputs answer status → is_unrefused status ≡ false → IsRefusedBy answer
+  refused_answer (Ok report) well told other = absurd (false≢true (sym other ∙ unrefused (Ok report) well tt told))
+  refused_answer (Err refusal) well told other = by (is_free refusal) refl
+    where
+      by : (free : Bool) → is_free refusal ≡ free → is_free refusal ≡ false
+      by false e = e
+      by true e = absurd (false≢true (sym other ∙ unrefused (Err refusal) tt e told))
+
+  -- one that ended neither by the device nor for want of memory has an answer that is not free
+  pub not_free_answer : (answer : Result Report Refusal) → Source outputs answer status → is_free_status status ≡ false → is_free_result answer ≡ false
+  not_free_answer (Ok report) from other = refl
+  not_free_answer (Err refusal) (own e) other = ap is_free_status (sym e) ∙ other
+  not_free_answer (Err refusal) (no_memory e) other = absurd (false≢true (sym other ∙ ap is_free_status e))
+  not_free_answer (Err refusal) (no_output e rose answered) other = absurd (false≢true answered)
 
   refused : (refusal : Refusal) (answer : Result Report Refusal) → KeepsToWords (Some refusal) answer → Told outputs answer status → Told outputs (Err refusal) status
   refused refusal answer (inl same) (inl x) = inl (subst (λ a. Concluded outputs a status) same x)

@@ -1,3 +1,4 @@
+pub mod Changing
 pub mod Endings
 pub mod Performed
 pub mod WordsFirst

@@ -1,5 +1,5 @@
 -- What a run does to the tree, by the words and the answer.
-use Rattle.std.proofs.Common.{◌≡◌, ◌≢◌, ◌⊎◌, ℕ, Bool, true, false, List, Some, Result, Ok, Err, IsTrue, refl, sym, ap, subst, ◌∙◌, inl, inr}
+use Rattle.std.proofs.Common.{◌≡◌, ◌≢◌, ℕ, Bool, true, false, List, Some, Result, Ok, Err, IsTrue, refl, sym, ap, subst, ◌∙◌}
 use Rattle.std.proofs.lemmas.Bool.{false≢true}
 use Rattle.tree_dev.specs.Trees.{FileTree}
 use Rattle.tree_dev.specs.Device.{Meaning, OnlyRead, Rose, only_read_refl}
@@ -13,9 +13,13 @@ use Rattle.run_answers.specs.declared.refusal.Refusal.TheVariants as refusals
 use Rattle.composer_words.specs.declared.chosen.Chosen.{Chosen}
 use Rattle.composer_words.specs.declared.chosen.Task.{Task}
 use Rattle.composer_words.specs.declared.chosen.Task.TheVariants as tasks
-use Rattle.composer_top.specs.Chosen.{ChooseRecovery, chooses_reading, chosen_in, is_reading}
+use Rattle.composer_words.specs.declared.chosen.Ways.{Ways}
+use Rattle.install_commands.proofs.WriteCounts.{none_written}
+use Rattle.composer_top.specs.Chosen.{ChooseDump, ChooseRecovery, chooses_reading, chosen_in, is_reading}
 use Rattle.composer_top.specs.Outcome.{Performs, PerformsChosen}
+use Rattle.composer_top.specs.Outcome.Dump.{Dump, IsDumpWork}
 use Rattle.composer_top.specs.Outcome.Recover.{Recovery}
+use Rattle.composer_top.proofs.Changing.{not_changed}
 use Rattle.composer_top.specs.declared.report.Report.{Report}
 
 -- ---- no command was begun
@@ -45,12 +49,19 @@ module _ (choice : Result Chosen Refusal) (refusal : Refusal) (given : refusal �
       device = λ failed. absurd (false≢true (sym no_device ∙ failed));
     }
 
+    not_dumped : (project : List (List ℕ)) (ways : Ways) → is_free refusal ≡ true → Dump project ways m m (Err refusal)
+    not_dumped project ways free = record {
+      changes = not_changed (IsDumpWork project ways) project m refusal free (λ failed. false≢true (sym no_device ∙ failed));
+      ends_well = tt;
+      few_writes = λ t told. none_written m.writes m.writes 8 refl;
+    }
+
     task_not_begun : (project : List (List ℕ)) (task : Task) → is_free refusal ≡ true → Performs project task m m (Err refusal)
     task_not_begun project (tasks.Lookup word) free = stays
     task_not_begun project tasks.Files free = stays
     task_not_begun project (tasks.Install ways) free = stays
     task_not_begun project (tasks.Update ways) free = stays
-    task_not_begun project (tasks.DumpAutoload ways) free = stays
+    task_not_begun project (tasks.DumpAutoload ways) free = not_dumped project ways free
     task_not_begun project tasks.Check free = stays
     task_not_begun project tasks.Recover free = not_recovered project free
     task_not_begun project (tasks.Demo number) free = stays
@@ -77,7 +88,7 @@ module _ (before now : Meaning) (answer : Result Report Refusal) where
   task_read project tasks.Files reads did = did
   task_read project (tasks.Install ways) reads did = did
   task_read project (tasks.Update ways) reads did = did
-  task_read project (tasks.DumpAutoload ways) reads did = did
+  task_read project (tasks.DumpAutoload ways) reads did = absurd (false≢true reads)
   task_read project tasks.Check reads did = did
   task_read project tasks.Recover reads did = absurd (false≢true reads)
   task_read project (tasks.Demo number) reads did = did
@@ -86,32 +97,30 @@ module _ (before now : Meaning) (answer : Result Report Refusal) where
   only_read (Ok chosen) reads did = task_read chosen.project chosen.task reads did
   only_read (Err refusal) reads did = did
 
-  abbrev Either : List (List ℕ) → Type 0
-  Either project = Reads ⊎ Recovery project before now answer
-
-  task_did : (project : List (List ℕ)) (task : Task) → Performs project task before now answer → Either project
-  task_did project (tasks.Lookup word) did = inl did
-  task_did project tasks.Files did = inl did
-  task_did project (tasks.Install ways) did = inl did
-  task_did project (tasks.Update ways) did = inl did
-  task_did project (tasks.DumpAutoload ways) did = inl did
-  task_did project tasks.Check did = inl did
-  task_did project tasks.Recover did = inr did
-  task_did project (tasks.Demo number) did = inl did
-
-  either_rose : (project : List (List ℕ)) → Either project → is_device_fault answer ≡ true → Rose before.faults now.faults
-  either_rose project (inl read) failed = read.cause failed
-  either_rose project (inr recovery) failed = recovery.device failed
+  task_rose : (project : List (List ℕ)) (task : Task) → Performs project task before now answer → is_device_fault answer ≡ true → Rose before.faults now.faults
+  task_rose project (tasks.Lookup word) did failed = did.cause failed
+  task_rose project tasks.Files did failed = did.cause failed
+  task_rose project (tasks.Install ways) did failed = did.cause failed
+  task_rose project (tasks.Update ways) did failed = did.cause failed
+  task_rose project (tasks.DumpAutoload ways) did failed = did.changes.device failed
+  task_rose project tasks.Check did failed = did.cause failed
+  task_rose project tasks.Recover did failed = did.device failed
+  task_rose project (tasks.Demo number) did failed = did.cause failed
 
   -- a device that failed counts it
   pub rose : (choice : Result Chosen Refusal) → PerformsChosen choice before now answer → is_device_fault answer ≡ true → Rose before.faults now.faults
-  rose (Ok chosen) did failed = either_rose chosen.project (task_did chosen.project chosen.task did) failed
+  rose (Ok chosen) did failed = task_rose chosen.project chosen.task did failed
   rose (Err refusal) did failed = did.cause failed
 
   -- what a recovery did
   pub recovery : (words : List (List ℕ)) (project : List (List ℕ)) → ChooseRecovery words project → PerformsChosen (chosen_in words) before now answer
       → Recovery project before now answer
   recovery words project chooses did = subst (λ (c : Result Chosen Refusal). PerformsChosen c before now answer) chooses did
+
+  -- what a dump did
+  pub dump : (words : List (List ℕ)) (project : List (List ℕ)) (ways : Ways) → ChooseDump words project ways → PerformsChosen (chosen_in words) before now answer
+      → Dump project ways before now answer
+  dump words project ways chooses did = subst (λ (c : Result Chosen Refusal). PerformsChosen c before now answer) chooses did
 
 -- a recovery of which less is said
 pub recovers_as : (project : List (List ℕ)) (before now : Meaning) {done other : Bool} → Recovers project before now done → (IsTrue other → IsTrue done)

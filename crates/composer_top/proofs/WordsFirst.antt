@@ -39,7 +39,7 @@ module _ (refusal : Refusal) where
   task_first t now project tasks.Files e = none e
   task_first t now project (tasks.Install ways) e = one_of _ (same refusals.Usage e)
   task_first t now project (tasks.Update ways) e = one_of _ (same refusals.Usage e)
-  task_first t now project (tasks.DumpAutoload ways) e = one_of _ (same refusals.Usage e)
+  task_first t now project (tasks.DumpAutoload ways) e = none e
   task_first t now project tasks.Check e = none e
   task_first t now project tasks.Recover e = none e
   task_first t now project (tasks.Demo number) e = one_of _ (same refusals.Usage e)

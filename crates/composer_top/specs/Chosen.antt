@@ -4,6 +4,7 @@ use Rattle.composer_words.specs.Words.{command_of}
 use Rattle.composer_words.specs.declared.chosen.Chosen.{Chosen}
 use Rattle.composer_words.specs.declared.chosen.Task.{Task}
 use Rattle.composer_words.specs.declared.chosen.Task.TheVariants as tasks
+use Rattle.composer_words.specs.declared.chosen.Ways.{Ways}
 use Rattle.composer_words.specs.declared.fault.WordsFault.{WordsFault}
 use Rattle.composer_words.specs.declared.fault.WordsFault.TheVariants as faults
 use Rattle.run_answers.specs.declared.refusal.Refusal.{Refusal}
@@ -20,13 +21,13 @@ or_refused (Err fault) = Err (refusal_of_words fault)
 abbrev pub chosen_in : List (List ℕ) → Result Chosen Refusal
 chosen_in words = or_refused (command_of words)
 
--- A command that changes nothing: all but `recover`. One that is not built yet is refused.
+-- A command that changes nothing: all but `dump-autoload` and `recover`. One that is not built yet is refused.
 abbrev pub is_reading : Task → Bool
 is_reading (tasks.Lookup word) = true
 is_reading tasks.Files = true
 is_reading (tasks.Install ways) = true
 is_reading (tasks.Update ways) = true
-is_reading (tasks.DumpAutoload ways) = true
+is_reading (tasks.DumpAutoload ways) = false
 is_reading tasks.Check = true
 is_reading tasks.Recover = false
 is_reading (tasks.Demo number) = true
@@ -42,3 +43,7 @@ only_reads words = chooses_reading (chosen_in words)
 -- The words choose to recover this project.
 abbrev pub ChooseRecovery : List (List ℕ) → List (List ℕ) → Type 0
 ChooseRecovery words project = chosen_in words ≡ Ok (record { project = project; task = tasks.Recover })
+
+-- The words choose to write the tables of this project anew, in these ways.
+abbrev pub ChooseDump : List (List ℕ) → List (List ℕ) → Ways → Type 0
+ChooseDump words project ways = chosen_in words ≡ Ok (record { project = project; task = tasks.DumpAutoload ways })

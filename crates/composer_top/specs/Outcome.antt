@@ -4,11 +4,16 @@ pub mod Lookup
 pub mod Files
 pub mod Check
 pub mod Recover
-use Rattle.std.specs.Prelude.{◌≡◌, ◌≢◌, ◌⊎◌, ℕ, nat_eq, List, [], ◌∷◌, ◌++◌, Bool, ◌||◌, IsTrue, Option, Some, None, Result, Ok, Err, MatchResult, IfErr, IfSome}
+pub mod Change
+pub mod Dump
+use Rattle.std.specs.Prelude.{◌≡◌, ◌≢◌, ◌⊎◌, ℕ, nat_eq, List, [], ◌∷◌, ◌++◌, Bool, false, ◌||◌, IsTrue, Option, Some, None, Result, Ok, Err, MatchResult, IfErr, IfSome}
+use Rattle.std.specs.FinMap as map
 use Rattle.path_name.specs.Given.{◌>>=◌}
 use Rattle.path_name.specs.Paths.{path_text}
 use Rattle.tree_dev.specs.Trees.{FileTree}
-use Rattle.tree_dev.specs.Device.{Meaning, OnlyRead, Rose}
+use Rattle.tree_dev.specs.Device.{Meaning, OfTold, OnlyRead, Rose}
+use Rattle.tree_dev.specs.Projects.{file_at, work_path}
+use Rattle.tree_dev.specs.Steady.{EachImage, IsSteadily, Through}
 use Rattle.tree_dev.specs.Sinks.{Taken, Takes, TakesPart}
 use Rattle.composer_words.specs.declared.chosen.Chosen.{Chosen}
 use Rattle.composer_words.specs.declared.chosen.Task.{Task}
@@ -16,13 +21,20 @@ use Rattle.composer_words.specs.declared.chosen.Task.TheVariants as tasks
 use Rattle.run_answers.specs.Faults.{is_device_fault, is_of_tree}
 use Rattle.run_answers.specs.Messages.{error_line}
 use Rattle.run_answers.specs.Statuses.{status_of}
+use Rattle.run_answers.specs.Steps.{TellsOne}
 use Rattle.run_answers.specs.declared.refusal.Refusal.{Refusal}
 use Rattle.run_answers.specs.declared.refusal.Refusal.TheVariants as refusals
+use Rattle.install_world.specs.InFlight.{IsInFlight}
+use Rattle.install_commands.specs.Claiming.{claim_in, with_claim}
+use Rattle.install_commands.specs.Commanded.{files_made, outcome_of_work}
+use Rattle.install_commands.specs.Working.{IsInstalled}
+use Rattle.install_commands.specs.declared.work.Work.{Work}
 use Rattle.composer_top.specs.Chosen.{chosen_in}
 use Rattle.composer_top.specs.Outcome.Lookup.{named, lookup_outcome}
 use Rattle.composer_top.specs.Outcome.Files.{files_outcome}
 use Rattle.composer_top.specs.Outcome.Check.{check_outcome}
 use Rattle.composer_top.specs.Outcome.Recover.{IsRecovery, Recovery}
+use Rattle.composer_top.specs.Outcome.Dump.{Dump, IsDump}
 use Rattle.composer_top.specs.declared.report.Report.{Report}
 
 -- ---- the outcome
@@ -34,14 +46,14 @@ path_line path = path_text path ++ 10 ∷ []
 abbrev pub plain : List ℕ → Report
 plain lines = record { lines = lines; end = None }
 
--- What a task may be answered over a tree t, where it leaves what is told afterwards: the one outcome of a command that only reads, or an outcome of a recovery. A
--- command that is not built yet is Usage.
+-- What a task may be answered over a tree t, where it leaves what is told afterwards: the one outcome of a command that only
+-- reads, or an outcome of a recovery or of a dump. A command that is not built yet is Usage.
 abbrev pub IsTaskOutcome : FileTree → Meaning → List (List ℕ) → Task → Result Report Refusal → Type 0
 IsTaskOutcome t now project (tasks.Lookup word) answer = (lookup_outcome t project word >>= λ path. Ok (plain (path_line path))) ≡ answer
 IsTaskOutcome t now project tasks.Files answer = (files_outcome t project >>= λ lines. Ok (plain lines)) ≡ answer
 IsTaskOutcome t now project (tasks.Install ways) answer = Err refusals.Usage ≡ answer
 IsTaskOutcome t now project (tasks.Update ways) answer = Err refusals.Usage ≡ answer
-IsTaskOutcome t now project (tasks.DumpAutoload ways) answer = Err refusals.Usage ≡ answer
+IsTaskOutcome t now project (tasks.DumpAutoload ways) answer = IsDump t project ways answer
 IsTaskOutcome t now project tasks.Check answer = check_outcome t project ≡ answer
 IsTaskOutcome t now project tasks.Recover answer = IsRecovery t now project answer
 IsTaskOutcome t now project (tasks.Demo number) answer = Err refusals.Usage ≡ answer
@@ -56,13 +68,13 @@ IsOutcome t now words answer = IsChosenOutcome t now (chosen_in words) answer
 
 -- ---- what becomes of the tree
 
--- What a task does, by its answer: it only reads, unless it recovers.
+-- What a task does, by its answer: it only reads, unless it recovers, or changes the project.
 abbrev pub Performs : List (List ℕ) → Task → Meaning → Meaning → Result Report Refusal → Type 0
 Performs project (tasks.Lookup word) before now answer = OnlyRead before now (is_device_fault answer)
 Performs project tasks.Files before now answer = OnlyRead before now (is_device_fault answer)
 Performs project (tasks.Install ways) before now answer = OnlyRead before now (is_device_fault answer)
 Performs project (tasks.Update ways) before now answer = OnlyRead before now (is_device_fault answer)
-Performs project (tasks.DumpAutoload ways) before now answer = OnlyRead before now (is_device_fault answer)
+Performs project (tasks.DumpAutoload ways) before now answer = Dump project ways before now answer
 Performs project tasks.Check before now answer = OnlyRead before now (is_device_fault answer)
 Performs project tasks.Recover before now answer = Recovery project before now answer
 Performs project (tasks.Demo number) before now answer = OnlyRead before now (is_device_fault answer)
@@ -82,7 +94,7 @@ task_refusal (tasks.Lookup word) = refusal_in (named word)
 task_refusal tasks.Files = None
 task_refusal (tasks.Install ways) = Some refusals.Usage
 task_refusal (tasks.Update ways) = Some refusals.Usage
-task_refusal (tasks.DumpAutoload ways) = Some refusals.Usage
+task_refusal (tasks.DumpAutoload ways) = None
 task_refusal tasks.Check = None
 task_refusal tasks.Recover = None
 task_refusal (tasks.Demo number) = Some refusals.Usage
@@ -173,3 +185,26 @@ EndsWithAnswer outputs status = (answer : Result Report Refusal) × Concluded ou
 abbrev pub EndsByWords : Outputs → Option Refusal → ℕ → Type 0
 EndsByWords outputs None status = status ≢ status_of refusals.Usage
 EndsByWords outputs (Some refusal) status = Concluded outputs (Err refusal) status ⊎ Concluded outputs (Err refusals.OutOfMemory) status
+
+-- ---- what a run does that changes a project
+
+-- The device failed, or memory ran out.
+abbrev pub is_free_status : ℕ → Bool
+is_free_status status = nat_eq status 8 || nat_eq status 10
+
+-- What a command does, by the status of its run, whose work in the claimed tree is this. Where t's project, t's surroundings and no
+-- journal are all that a crash may leave at the start, a crash at any moment leaves a tree on the way from t's project to that
+-- of the work, or one of both; where the run is done it is the project of the work, and where it was refused that of t.
+pub record RunChanges (IsMade : FileTree → ℕ → Result Work Refusal → Type 0) (project : List (List ℕ)) (t : FileTree) (before now : Meaning) (status : ℕ) : Type 0 where
+  pub made : Result Work Refusal
+  pub left : ℕ
+  -- what was made under the claim, unless the device failed or memory ran out
+  pub is_made : claim_in t project ≡ Ok tt → TellsOne (λ work. work) (IsMade (with_claim project t) left) made
+  -- a run that is done had lines
+  pub done : IsTrue (is_done status) → (lines : List ℕ) × (outcome_of_work project t left made ≡ Ok lines)
+  pub through : EachImage before (IsSteadily project t) → Through before now (IsInFlight project t (file_at t) (files_made project t left made))
+  pub settled : IsTrue (is_done status) → EachImage before (IsSteadily project t) → EachImage now (IsInstalled project t (files_made project t left made))
+  pub refused : is_unrefused status ≡ false → EachImage before (IsSteadily project t) → EachImage now (IsInstalled project t (file_at t))
+  -- the claim is gone where there was one, and nothing was changed where there was none
+  pub released : claim_in t project ≡ Ok tt → is_free_status status ≡ false → OfTold now (λ u. map.get u (work_path project) ≡ None)
+  pub unclaimed : (refusal : Refusal) → claim_in t project ≡ Err refusal → is_free_status status ≡ false → now.told ≡ before.told

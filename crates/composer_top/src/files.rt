@@ -8,7 +8,7 @@ ghost use Rattle.run_answers.specs.Faults.{is_of_tree, is_device_fault};
 ghost use Rattle.run_answers.specs.Steps.{Tells};
 ghost use Rattle.composer_top.specs.Outcome.Files.{file_lines, files_outcome};
 
-use crate::table_files::{file_tables, refuse_pending};
+use crate::standing_tables::{file_tables, refuse_pending};
 use path_name::{Path, Text};
 use run_answers::Refusal;
 use std::alloc::{AllocError, Global};

@@ -9,7 +9,7 @@ mod laws;
 mod lookup;
 mod report;
 mod runner;
-mod table_files;
+mod standing_tables;
 
 pub use laws::words_first;
 pub use report::{Report, refuse};

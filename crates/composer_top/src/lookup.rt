@@ -11,7 +11,7 @@ ghost use Rattle.run_answers.specs.Steps.{Tells};
 ghost use Rattle.composer_top.specs.Outcome.{KeepsToWords, refusal_in};
 ghost use Rattle.composer_top.specs.Outcome.Lookup.{refusal_of_lookup, named, found_in, looked_up, lookup_outcome};
 
-use crate::table_files::{class_tables, refuse_pending};
+use crate::standing_tables::{class_tables, refuse_pending};
 use class_lookup::{Found, LookupFault, class_name, find};
 use path_name::{Name, Path, Text};
 use run_answers::Refusal;

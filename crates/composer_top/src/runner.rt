@@ -3,6 +3,7 @@
 ghost use Rattle.std.specs.Prelude.{◌≡◌, ◌⊎◌, List, ℕ, true, false, map, nat_eq, None, IfOk, IfErr, IsTrue};
 ghost use Rattle.std.specs.String.{string_bytes};
 ghost use Rattle.tree_dev.specs.Trees.{FileTree};
+ghost use Rattle.composer_words.specs.declared.chosen.Ways.{Ways};
 ghost use Rattle.tree_dev.specs.Device.{OnlyRead, OfTold, Rose};
 ghost use Rattle.tree_dev.specs.Steady.{EachImage};
 ghost use Rattle.install_world.specs.InFlight.{Files, IsInFlight};
@@ -10,8 +11,9 @@ ghost use Rattle.install_world.specs.Recovery.{CanRecover};
 ghost use Rattle.install_commands.specs.Recovering.{Recovers};
 ghost use Rattle.run_answers.specs.Faults.{is_of_tree};
 ghost use Rattle.run_answers.specs.Steps.{TellsOne};
-ghost use Rattle.composer_top.specs.Chosen.{ChooseRecovery, chosen_in, only_reads};
-ghost use Rattle.composer_top.specs.Outcome.{KeepsToWords, IsOutcome, IsTaskOutcome, Performs, PerformsChosen, task_refusal, words_refusal, path_line, Ends, EndsByWords, EndsWithAnswer, IsFinding, is_done, is_unrefused};
+ghost use Rattle.composer_top.specs.Chosen.{ChooseDump, ChooseRecovery, chosen_in, only_reads};
+ghost use Rattle.composer_top.specs.Outcome.{KeepsToWords, IsOutcome, IsTaskOutcome, Performs, PerformsChosen, task_refusal, words_refusal, path_line, Ends, EndsByWords, EndsWithAnswer, IsFinding, RunChanges, is_done, is_unrefused};
+ghost use Rattle.composer_top.specs.Outcome.Dump.{Dump, FewWrites, IsDump, IsDumpWork};
 ghost use Rattle.composer_top.specs.Outcome.Recover.{IsRecovery, Recovery};
 
 use crate::check::check;
@@ -19,7 +21,8 @@ use crate::chosen::chosen;
 use crate::files::files;
 use crate::lookup::lookup;
 use crate::report::{Report, conclude};
-use composer_words::Task;
+use composer_words::{Task, Ways};
+use dump_command::dump_autoload;
 use install_commands::recover;
 use path_name::{Path, Text};
 use run_answers::Refusal;
@@ -53,7 +56,8 @@ fn perform_task<T: Tree>(
     match task {
         Task::Lookup(word) => Ok(plain(path_line(alloc, &lookup(alloc, project, word, tree)?)?)),
         Task::Files => Ok(plain(files(alloc, project, tree)?)),
-        Task::Install(_) | Task::Update(_) | Task::DumpAutoload(_) => Err(Refusal::Usage),
+        Task::Install(_) | Task::Update(_) => Err(Refusal::Usage),
+        Task::DumpAutoload(ways) => dumped(alloc, project, ways, tree),
         Task::Check => check(alloc, project, tree),
         Task::Recover => recovered(alloc, project, tree),
         Task::Demo(_) => Err(Refusal::Usage),
@@ -68,6 +72,24 @@ fn recovered<T: Tree>(alloc: Global, project: &Path, tree: &mut T) -> Result<Rep
     ensures end { IfOk result IsFinding }
 {
     match recover(alloc, project, tree) {
+        Ok(lines) => Ok(plain(lines)),
+        Err(refusal) => Err(refusal),
+    }
+}
+
+/// The answer of a dump.
+fn dumped<T: Tree>(
+    alloc: Global,
+    project: &Path,
+    ways: &Ways,
+    tree: &mut T,
+) -> Result<Report, Refusal>
+    ensures told { OfTold (T.meaning tree.old) (λ t. TellsOne (λ report. report) (IsDump t project.now ways.now) result) }
+    ensures dump { Dump project.now ways.now (T.meaning tree.old) (T.meaning tree.new) result }
+    ensures causes { IfErr result (λ refusal. IsTrue (is_of_tree refusal)) }
+    ensures end { IfOk result IsFinding }
+{
+    match dump_autoload(alloc, project, ways, tree) {
         Ok(lines) => Ok(plain(lines)),
         Err(refusal) => Err(refusal),
     }
@@ -91,11 +113,11 @@ fn path_line(alloc: Global, path: &Path) -> Result<Text, AllocError>
 }
 
 /// Runs a command. `words` are the words behind the program's name, read as clap reads them. `lookup NAME`, `files`,
-/// `check` and `recover` are the commands that are built; `-d DIR` names the project's folder, which is the tree's root
+/// `dump-autoload`, `check` and `recover` are the commands that are built; `-d DIR` names the project's folder, which is the tree's root
 /// without it. The answer is lines on `out`, or a refusal's line `error: TEXT` on `errs`, and both where `check` finds a
 /// broken rule; the status is 0, or that of the refusal, as `run_answers` has them. A fault of `errs` changes no status,
-/// and one of `out` comes when the work is done. `recover` ends an install that was stopped, and is to be run only while no
-/// install runs; by all other commands the tree is only read.
+/// and one of `out` comes when the work is done. `dump-autoload` changes the project under a claim, and `recover` ends an
+/// install that was stopped, and is to be run only while no install runs; by all other commands the tree is only read.
 pub fn run<T: Tree, S: Sink, E: Sink>(
     alloc: Global,
     words: &[String],
@@ -116,6 +138,12 @@ pub fn run<T: Tree, S: Sink, E: Sink>(
         (words_refusal (map string_bytes words.now)) result }
     // A command that only reads, and words that are none, change nothing.
     ensures only_read { only_reads (map string_bytes words.now) ≡ true → OnlyRead (T.meaning tree.old) (T.meaning tree.new) (nat_eq result 8) }
+    // A dump is on its way from the project of before to that with the new tables at each moment, and stands at one of them when it
+    // ends: at the new one where it is done, at the old one where it is refused.
+    ensures dumps { (project : List (List ℕ)) (ways : Ways) → ChooseDump (map string_bytes words.now) project ways → OfTold (T.meaning tree.old) (λ t.
+        RunChanges (IsDumpWork project ways) project t (T.meaning tree.old) (T.meaning tree.new) result) }
+    // At most eight files are written by it: seven in the project, and the journal.
+    ensures few_writes { (project : List (List ℕ)) (ways : Ways) → ChooseDump (map string_bytes words.now) project ways → FewWrites (T.meaning tree.old) (T.meaning tree.new) }
     // A recovery keeps each moment in flight, and where it is done the project is the finished one.
     ensures recovers { (project : List (List ℕ)) → ChooseRecovery (map string_bytes words.now) project
         → Recovers project (T.meaning tree.old) (T.meaning tree.new) (is_done result) }

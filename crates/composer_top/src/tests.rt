@@ -1,3 +1,4 @@
+mod dumps;
 mod journals;
 mod lock_refusals;
 mod locks;

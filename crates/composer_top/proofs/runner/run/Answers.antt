@@ -3,8 +3,10 @@ use Rattle.std.specs.String.{string_bytes}
 use Rattle.std.proofs.lemmas.Bool.{eqb-true}
 use Rattle.composer_top.specs.Chosen.{chosen_in}
 use Rattle.composer_top.specs.Outcome.{IsOutcome, words_refusal}
-use Rattle.composer_top.proofs.Endings.{device_fault, done_is_answered, ends_by_words, output_fault, read_as, some_answer, source, told_ends, unread, unrefused}
-use Rattle.composer_top.proofs.Performed.{only_read, recovers_as, recovery, rose}
+use Rattle.composer_top.specs.Outcome.Dump.{IsDumpWork}
+use Rattle.composer_top.proofs.Endings.{device_fault, done_is_answered, ends_by_words, not_free_answer, output_fault, read_as, refused_answer, some_answer, source, told_ends, unread, unrefused}
+use Rattle.composer_top.proofs.Changing.{run_changes}
+use Rattle.composer_top.proofs.Performed.{dump, only_read, recovers_as, recovery, rose}
 use Rattle.composer_top.proofs.runner.run.Goals as goal
 use Rattle.composer_top.proofs.runner.run.Goals.{After-conclude}
 
@@ -28,6 +30,20 @@ returns-clause-recovers g c = λ project chooses.
     let did = recovery _ _ c.perform-answer.result (map string_bytes c.args.words.now) project chooses c.perform-answer.ensures.performs in
     recovers_as project _ _ did.recovers
     (λ done. done_is_answered _ _ (map string_bytes c.args.words.now) c.perform-answer.result c.perform-answer.ensures.words (source _ _ c.perform-answer.result c.perform-answer.ensures.end c.conclude.ensures) done)
+
+pub returns-clause-dumps : goal.returns-clause-dumps
+returns-clause-dumps g c = λ project ways chooses t told.
+    let did = dump _ _ c.perform-answer.result (map string_bytes c.args.words.now) project ways chooses c.perform-answer.ensures.performs in
+    let from = source _ _ c.perform-answer.result c.perform-answer.ensures.end c.conclude.ensures in
+    run_changes (IsDumpWork project ways) project t _ _ c.conclude.result c.perform-answer.result
+    (λ done. done_is_answered _ _ (map string_bytes c.args.words.now) c.perform-answer.result c.perform-answer.ensures.words from done)
+    (not_free_answer _ _ c.perform-answer.result from)
+    (refused_answer _ _ c.perform-answer.result did.ends_well c.conclude.ensures)
+    (did.changes.commanded t told)
+
+pub returns-clause-few_writes : goal.returns-clause-few_writes
+returns-clause-few_writes g c = λ project ways chooses.
+    (dump _ _ c.perform-answer.result (map string_bytes c.args.words.now) project ways chooses c.perform-answer.ensures.performs).few_writes
 
 pub returns-clause-fits : goal.returns-clause-fits
 returns-clause-fits g c = λ project chooses t told surroundings old new each can.
