@@ -7,3 +7,7 @@ pub mod Warned
 pub mod NoPlans
 pub mod Updates
 pub mod MetLocks
+pub mod OfferedFolders
+pub mod SamePackages
+pub mod PlanPackages
+pub mod NewLocksMet

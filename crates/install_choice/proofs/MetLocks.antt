@@ -39,9 +39,7 @@ standing_met t at manifest lock pool read offered met = record {
   root = pool_root manifest.root lock at pool offered;
   same = refl;
   unwritten = refl;
-  pool = pool;
-  offered = offered;
-  valid = all_valid pool met;
+  met = record { pool = pool; offered = offered; valid = all_valid pool met };
 }
 
 chosen_met : (t : FileTree) (at : List (List ℕ)) (manifest : ProjectManifest) (lock : Lock) (chosen : Chosen) → project_manifest_in t at ≡ Ok manifest → chosen_by_lock at manifest.root lock ≡ Ok chosen → HasMetLock t at lock chosen

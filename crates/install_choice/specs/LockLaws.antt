@@ -5,6 +5,7 @@ use Rattle.lock_file.specs.LockText.{lock_text}
 use Rattle.lock_file.specs.PlanLocks.{IsLockOf}
 use Rattle.lock_file.specs.Rereading.{IsTextOf}
 use Rattle.lock_file.specs.declared.types.Lock.{Lock}
+use Rattle.manifest_read.specs.declared.types.Manifest.{Manifest}
 use Rattle.pkg_pool.specs.Pools.{Loaded, pool_of_tree}
 use Rattle.pkg_pool.specs.declared.pool.Pool.{Pool}
 use Rattle.plan_rules.specs.FirstChoice.{IsFirstChoice}
@@ -40,14 +41,17 @@ pub record HasNoValidSet (t : FileTree) (at : List (List ℕ)) (left : ℕ) : Ty
   pub offered : HasPool t at left manifest loaded
   pub none : HasNoPlan loaded.pool
 
--- The lock that stands is left as it is. All its packages, those for development with them, are a valid plan for the
--- composer.json that was read.
+-- All packages of a lock, those for development with them, are a valid plan for a root.
+pub record IsMet (at : List (List ℕ)) (root : Manifest) (lock : Lock) : Type 0 where
+  pub pool : Pool
+  pub offered : pool_in root lock at ≡ Ok pool
+  pub valid : is_valid pool (whole pool) ≡ true
+
+-- The lock that stands is left as it is, and is met for the composer.json that was read.
 pub record HasMetLock (t : FileTree) (at : List (List ℕ)) (lock : Lock) (chosen : Chosen) : Type 0 where
   pub manifest : ProjectManifest
   pub read : project_manifest_in t at ≡ Ok manifest
   pub root : chosen.root ≡ manifest.root
   pub same : chosen.lock ≡ lock
   pub unwritten : chosen.text ≡ None
-  pub pool : Pool
-  pub offered : pool_in manifest.root lock at ≡ Ok pool
-  pub valid : is_valid pool (whole pool) ≡ true
+  pub met : IsMet at manifest.root lock

@@ -1,12 +1,17 @@
 //! Laws of what is chosen, each as the contract of a function that does nothing.
 
 ghost use Rattle.std.specs.Prelude.{◌≡◌, ℕ, List, Some, None, Result, Ok, Err};
-ghost use Rattle.tree_dev.specs.Trees.{FileTree};
+ghost use Rattle.tree_dev.specs.Projects.{lock_path};
+ghost use Rattle.tree_dev.specs.Trees.{FileTree, read_at};
+ghost use Rattle.tree_dev.specs.declared.entry.ReadAnswer.TheVariants as answers;
+ghost use Rattle.tree_dev.specs.declared.limits.TheConstants.{FILE_BYTES};
+ghost use Rattle.lock_file.specs.LockText.{lock_text};
+ghost use Rattle.project_files.specs.ProjectLock.{project_lock_in};
 ghost use Rattle.lock_file.specs.declared.types.Lock.{Lock as Locks};
 ghost use Rattle.run_answers.specs.declared.refusal.Refusal.{Refusal};
 ghost use Rattle.run_answers.specs.declared.refusal.Refusal.TheVariants as refusals;
 ghost use Rattle.install_choice.specs.Choosing.{IsChosenToInstall, IsChosenToUpdate, standing_lock_in};
-ghost use Rattle.install_choice.specs.LockLaws.{HasMetLock, HasNewLock, HasNoValidSet};
+ghost use Rattle.install_choice.specs.LockLaws.{HasMetLock, HasNewLock, HasNoValidSet, IsMet};
 ghost use Rattle.install_choice.specs.declared.chosen.Chosen.{Chosen as Choice};
 
 /// What `update` chooses is the plan of first choices among the packages of the root's repositories, and its lock, whose text
@@ -29,4 +34,12 @@ pub fn standing_locks_are_met()
 /// Without a lock `install` chooses what `update` chooses.
 pub fn installs_without_a_lock_update()
     ensures { (t : FileTree) (at : List (List ℕ)) (left : ℕ) (made : Result (Choice × ℕ) Refusal) → standing_lock_in t at ≡ Ok None → IsChosenToInstall t at left made → IsChosenToUpdate t at left made }
+{}
+
+/// The lock of a new plan is met, as one that stands is: all its packages together are a valid plan for composer.json. Where
+/// its text stands at composer.lock, and is no longer than a file may be, it is read as that lock.
+pub fn new_locks_are_met()
+    ensures met { (t : FileTree) (at : List (List ℕ)) (left : ℕ) (chosen : Choice) → HasNewLock t at left chosen → IsMet at chosen.root chosen.lock }
+    ensures read { (t u : FileTree) (at : List (List ℕ)) (left : ℕ) (chosen : Choice) → HasNewLock t at left chosen
+        → read_at u (lock_path at) FILE_BYTES ≡ answers.Bytes (lock_text chosen.lock) → project_lock_in u at ≡ Ok chosen.lock }
 {}

@@ -12,8 +12,8 @@ mod warning;
 pub use choosing::{chosen_to_install, chosen_to_update};
 pub use chosen::Chosen;
 pub use laws::{
-    installs_without_a_lock_update, no_plan_is_no_valid_set, standing_locks_are_met,
-    updates_take_first_choices,
+    installs_without_a_lock_update, new_locks_are_met, no_plan_is_no_valid_set,
+    standing_locks_are_met, updates_take_first_choices,
 };
 
 #[cfg(test)]
