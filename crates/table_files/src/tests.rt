@@ -288,9 +288,11 @@ fn put_all(parts: &[Part], texts: &[&[u8]]) -> bool {
 fn are_written(alloc: Global) -> Option<bool> {
     let parts = parts(alloc)?;
     let lines = targets(alloc, parts.as_slice()).ok()?;
-    let (tables, rest) = parts.as_slice().split_at(5);
-    let are_tables = lines.as_slice() == TARGETS && put_all(tables, &TEXTS);
-    Some(are_tables && puts(&rest[0], b"installed") && puts(&rest[2], b"lock"))
+    let [_, _, _, _, _, installed, _, lock] = parts.as_slice() else {
+        return Some(false);
+    };
+    let are_tables = lines.as_slice() == TARGETS && put_all(parts.as_slice(), &TEXTS);
+    Some(are_tables && puts(installed, b"installed") && puts(lock, b"lock"))
 }
 
 #[test]
