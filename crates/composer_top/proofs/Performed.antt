@@ -17,7 +17,7 @@ use Rattle.composer_words.specs.declared.chosen.Ways.{Ways}
 use Rattle.install_commands.proofs.WriteCounts.{none_written}
 use Rattle.composer_top.specs.Chosen.{ChooseDump, ChooseRecovery, chooses_reading, chosen_in, is_reading}
 use Rattle.composer_top.specs.Outcome.{Performs, PerformsChosen}
-use Rattle.composer_top.specs.Outcome.Dump.{Dump, IsDumpWork}
+use Rattle.composer_top.specs.Outcome.Dump.{Dumped, IsDumpWork}
 use Rattle.composer_top.specs.Outcome.Recover.{Recovery}
 use Rattle.composer_top.proofs.Changing.{not_changed}
 use Rattle.composer_top.specs.declared.report.Report.{Report}
@@ -49,7 +49,7 @@ module _ (choice : Result Chosen Refusal) (refusal : Refusal) (given : refusal �
       device = λ failed. absurd (false≢true (sym no_device ∙ failed));
     }
 
-    not_dumped : (project : List (List ℕ)) (ways : Ways) → is_free refusal ≡ true → Dump project ways m m (Err refusal)
+    not_dumped : (project : List (List ℕ)) (ways : Ways) → is_free refusal ≡ true → Dumped project ways m m (Err refusal)
     not_dumped project ways free = record {
       changes = not_changed (IsDumpWork project ways) project m refusal free (λ failed. false≢true (sym no_device ∙ failed));
       ends_well = tt;
@@ -119,7 +119,7 @@ module _ (before now : Meaning) (answer : Result Report Refusal) where
 
   -- what a dump did
   pub dump : (words : List (List ℕ)) (project : List (List ℕ)) (ways : Ways) → ChooseDump words project ways → PerformsChosen (chosen_in words) before now answer
-      → Dump project ways before now answer
+      → Dumped project ways before now answer
   dump words project ways chooses did = subst (λ (c : Result Chosen Refusal). PerformsChosen c before now answer) chooses did
 
 -- a recovery of which less is said

@@ -34,7 +34,7 @@ use Rattle.composer_top.specs.Outcome.Lookup.{named, lookup_outcome}
 use Rattle.composer_top.specs.Outcome.Files.{files_outcome}
 use Rattle.composer_top.specs.Outcome.Check.{check_outcome}
 use Rattle.composer_top.specs.Outcome.Recover.{IsRecovery, Recovery}
-use Rattle.composer_top.specs.Outcome.Dump.{Dump, IsDump}
+use Rattle.composer_top.specs.Outcome.Dump.{Dumped, IsDump}
 use Rattle.composer_top.specs.declared.report.Report.{Report}
 
 -- ---- the outcome
@@ -74,7 +74,7 @@ Performs project (tasks.Lookup word) before now answer = OnlyRead before now (is
 Performs project tasks.Files before now answer = OnlyRead before now (is_device_fault answer)
 Performs project (tasks.Install ways) before now answer = OnlyRead before now (is_device_fault answer)
 Performs project (tasks.Update ways) before now answer = OnlyRead before now (is_device_fault answer)
-Performs project (tasks.DumpAutoload ways) before now answer = Dump project ways before now answer
+Performs project (tasks.DumpAutoload ways) before now answer = Dumped project ways before now answer
 Performs project tasks.Check before now answer = OnlyRead before now (is_device_fault answer)
 Performs project tasks.Recover before now answer = Recovery project before now answer
 Performs project (tasks.Demo number) before now answer = OnlyRead before now (is_device_fault answer)

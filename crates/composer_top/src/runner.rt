@@ -13,7 +13,7 @@ ghost use Rattle.run_answers.specs.Faults.{is_of_tree};
 ghost use Rattle.run_answers.specs.Steps.{TellsOne};
 ghost use Rattle.composer_top.specs.Chosen.{ChooseDump, ChooseRecovery, chosen_in, only_reads};
 ghost use Rattle.composer_top.specs.Outcome.{KeepsToWords, IsOutcome, IsTaskOutcome, Performs, PerformsChosen, task_refusal, words_refusal, path_line, Ends, EndsByWords, EndsWithAnswer, IsFinding, RunChanges, is_done, is_unrefused};
-ghost use Rattle.composer_top.specs.Outcome.Dump.{Dump, FewWrites, IsDump, IsDumpWork};
+ghost use Rattle.composer_top.specs.Outcome.Dump.{Dumped, FewWrites, IsDump, IsDumpWork};
 ghost use Rattle.composer_top.specs.Outcome.Recover.{IsRecovery, Recovery};
 
 use crate::check::check;
@@ -85,7 +85,7 @@ fn dumped<T: Tree>(
     tree: &mut T,
 ) -> Result<Report, Refusal>
     ensures told { OfTold (T.meaning tree.old) (λ t. TellsOne (λ report. report) (IsDump t project.now ways.now) result) }
-    ensures dump { Dump project.now ways.now (T.meaning tree.old) (T.meaning tree.new) result }
+    ensures dump { Dumped project.now ways.now (T.meaning tree.old) (T.meaning tree.new) result }
     ensures causes { IfErr result (λ refusal. IsTrue (is_of_tree refusal)) }
     ensures end { IfOk result IsFinding }
 {

@@ -24,7 +24,7 @@ abbrev pub FewWrites : Meaning → Meaning → Type 0
 FewWrites before now = OfTold before (λ _. now.writes ≤ after_more before.writes 8)
 
 -- What a dump does, by its answer.
-pub record Dump (project : List (List ℕ)) (ways : Ways) (before now : Meaning) (answer : Result Report Refusal) : Type 0 where
+pub record Dumped (project : List (List ℕ)) (ways : Ways) (before now : Meaning) (answer : Result Report Refusal) : Type 0 where
   pub changes : Changes (IsDumpWork project ways) project before now answer
   pub ends_well : IfOk answer (λ report. report.end ≡ None)
   pub few_writes : FewWrites before now
