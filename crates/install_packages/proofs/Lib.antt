@@ -1,0 +1,9 @@
+pub mod WantedParts
+pub mod WantedFiles
+pub mod Works
+pub mod Unrolled
+pub mod NewProjects
+pub mod InstallWarnings
+pub mod StandingFiles
+pub mod FewWrites
+pub mod ShownPackages

@@ -1,0 +1,5 @@
+use Rattle.install_packages.proofs.ShownPackages.{packages_shown}
+use Rattle.install_packages.proofs.laws.installed_packages_are_shown.Goals as goal
+
+pub returns : goal.returns
+returns c = packages_shown

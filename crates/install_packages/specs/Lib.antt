@@ -1,0 +1,3 @@
+pub mod InstallParts
+pub mod Installing
+pub mod Installations

@@ -1,0 +1,18 @@
+//! The commands `install` and `update`: the packages of the lock that stands, or of a new plan, are copied into a project's
+//! `vendor`, with the tables of their classes and the autoloader, and a new lock is written.
+#![tactic(auto)]
+
+mod installing;
+mod job_steps;
+mod laws;
+mod lines;
+mod wanted;
+
+pub use installing::{install, update};
+pub use laws::{
+    commands_install_what_they_choose, installations_make_the_new_project,
+    installations_write_few_files, installed_packages_are_shown, installed_tables, new_locks_stand,
+};
+
+#[cfg(test)]
+mod tests;
