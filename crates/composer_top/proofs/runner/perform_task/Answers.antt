@@ -9,3 +9,8 @@ pub returns-in-Check-clause-told : goal.returns-in-Check-clause-told
 returns-in-Check-clause-told g c = λ t told.
     subst (λ (task : Task). TellsOne {X = Report} {Y = Report} (λ report. report) (IsTaskOutcome t (g.T.Tree.meaning c.check.new.tree) c.args.project.now task) c.check.result)
     (sym c.in-Check.is) (c.check.ensures.told t told)
+
+pub returns-in-DumpAutoload-clause-told : goal.returns-in-DumpAutoload-clause-told
+returns-in-DumpAutoload-clause-told g c = λ t told.
+    subst (λ (task : Task). TellsOne {X = Report} {Y = Report} (λ report. report) (IsTaskOutcome t (g.T.Tree.meaning c.dumped.new.tree) c.args.project.now task) c.dumped.result)
+    (sym c.in-DumpAutoload.is) (c.dumped.ensures.told t told)
