@@ -6,13 +6,16 @@ use Rattle.tree_dev.specs.Device.{Meaning, OfTold}
 use Rattle.tree_dev.specs.Disk.{reading}
 use Rattle.tree_dev.specs.Projects.{journal_path, work_path}
 use Rattle.tree_dev.specs.Steady.{EachImage, Through}
+use Rattle.install_world.specs.AtOnce.{IsDueAtOnce, IsStopped, NothingStops}
 use Rattle.install_world.specs.Finishing.{KeepsFinished, StopsAt}
 use Rattle.install_world.specs.InFlight.{Files, HasFiles, HasJournal, IsFinishedProject, IsInFlight, IsThere}
 use Rattle.install_world.specs.declared.journal.Journal.{Journal}
 use Rattle.install_world.specs.Recovery.{CanBeFinished, HasBadJournal, IsLong, IsOtherEntry, IsRecovered, recovered_in}
 use Rattle.tree_dev.specs.declared.limits.LimitKind.TheVariants.{FileBytes}
+use Rattle.install_world.specs.declared.recovery_fault.RecoverFault.{RecoverFault}
 use Rattle.install_world.specs.declared.recovery_fault.Recovered.{Recovered}
 use Rattle.install_world.specs.declared.recovery_fault.Recovered.TheVariants as did
+use Rattle.install_commands.specs.Refusals.{refusal_of_recovery}
 use Rattle.run_answers.specs.Statuses.{status_of}
 use Rattle.run_answers.specs.declared.refusal.Refusal.{Refusal}
 use Rattle.run_answers.specs.declared.refusal.Refusal.TheVariants as refusals
@@ -24,9 +27,11 @@ recovery_line did.NothingToDo = codes "nothing to do" ++ 10 ∷ []
 recovery_line did.Removed = codes "removed" ++ 10 ∷ []
 recovery_line did.Finished = codes "finished" ++ 10 ∷ []
 
--- Another kind of entry stands at a path than is needed there. Of a journal that stands the parts before one are done, and that
--- one and those behind it are as they were.
+-- Another kind of entry stood at a path, and stands there, than is needed: at `.install` or its journal, or where it stops the
+-- first part of a journal that is stopped. Of a journal that stands the parts before one are done, and that one and those behind
+-- it are as they were.
 pub record StandsInTheWay (project path : List (List ℕ)) (t : FileTree) (now : Meaning) : Type 0 where
+  pub stopped : IsStopped project t path
   pub other : OfTold now (IsOtherEntry project path)
   pub stops : (journal : Journal) → HasJournal project t journal → (number : ℕ) × StopsAt project journal number t (reading now.disks.now)
 
@@ -38,10 +43,16 @@ IsRecoveryRefused project t now (refusals.OtherEntry path) = StandsInTheWay proj
 IsRecoveryRefused project t now (refusals.Limit limit) = (limit ≡ FileBytes (journal_path project)) × IsLong (journal_path project) t
 IsRecoveryRefused project t now _ = ⊥
 
--- What is answered over a tree: the line for what is to be done there, or a refusal.
+-- Where a refusal is due before anything is done, the answer is that refusal; and where something stops a part, it is not done.
+abbrev pub AnswersDue : {X : Type 0} → List (List ℕ) → FileTree → Result X Refusal → Type 0
+AnswersDue project t (Ok x) = ((due : RecoverFault) → IsDueAtOnce project t due → ⊥) × NothingStops project t
+AnswersDue project t (Err refusal) = (due : RecoverFault) → IsDueAtOnce project t due → refusal_of_recovery due ≡ refusal
+
+-- What is answered over a tree: the refusal that is due before anything is done; else the line for what is to be done there, or a
+-- refusal that comes on the way.
 abbrev pub IsRecoveryAnswer : List (List ℕ) → FileTree → Meaning → Result (List ℕ) Refusal → Type 0
-IsRecoveryAnswer project t now (Ok lines) = recovery_line (recovered_in project t) ≡ lines
-IsRecoveryAnswer project t now (Err refusal) = IsRecoveryRefused project t now refusal
+IsRecoveryAnswer project t now (Ok lines) = (recovery_line (recovered_in project t) ≡ lines) × AnswersDue {X = List ℕ} project t (Ok lines)
+IsRecoveryAnswer project t now (Err refusal) = IsRecoveryRefused project t now refusal × AnswersDue {X = List ℕ} project t (Err refusal)
 
 -- The journal could not be read: it is bad or too long.
 abbrev pub is_unread : {X : Type 0} → Result X Refusal → Bool

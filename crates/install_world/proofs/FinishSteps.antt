@@ -176,6 +176,9 @@ made_same at t u same = subst (OnlyMade at t) (sym same) (made_itself at t)
 pub made_read : (at : List (List ℕ)) (b d : Meaning) (failed : Bool) → OnlyRead b d failed → OnlyMade at (reading b.disks.now) (reading d.disks.now)
 made_read at b d failed read = made_same at (reading b.disks.now) (reading d.disks.now) (reads_same b d failed read)
 
+pub made_then_read : (at : List (List ℕ)) (t : FileTree) (b d : Meaning) (failed : Bool) → OnlyRead b d failed → OnlyMade at t (reading b.disks.now) → OnlyMade at t (reading d.disks.now)
+made_then_read at t b d failed read made = made_on at t (reading b.disks.now) (reading d.disks.now) made (made_read at b d failed read)
+
 folder_made : (at : List (List ℕ)) (t : FileTree) → map.get t at ≡ None → OnlyMade at t (changed t (changes.FolderMade at))
 folder_made at t none = record {
   each = λ path. subst (λ entry. (entry ≡ map.get t path) ⊎ ((is_within path at ≡ true) × ((map.get t path ≡ None) × (entry ≡ Some entries.Folder))))

@@ -2,6 +2,7 @@
 use Rattle.std.proofs.Common.{◌≡◌, ◌≢◌, ℕ, true, false, cond, codes, List, [], ◌∷◌, ◌++◌, append_assoc, append-nil, Option, Some, None, is_some, is_none, refl, sym, ap, ◌∙◌, subst, inl, inr}
 use Rattle.std.specs.Prelude.{◌⊎◌, ◌&&◌, Result, Ok, Err}
 use Rattle.std.specs.FinMap as map
+use Rattle.std.proofs.lemmas.Bool.{false≢true}
 use Rattle.std.proofs.lemmas.Cmp.{eq_by_cmp_equiv}
 use Rattle.std.proofs.lemmas.Option.{slice_get_within, get_or_from_slice_get}
 use Rattle.path_name.specs.Orders.{path_cmp_total}
@@ -23,7 +24,7 @@ use Rattle.tree_dev.proofs.Snoc.{parent_of, without_last-snoc}
 use Rattle.install_world.specs.Emptied as removals
 use Rattle.install_world.specs.Finishing.{MakesReady, OnlyMade, Stands}
 use Rattle.install_world.specs.InFlight.{IsPart, IsThere, kept_path, old_path, staged_path, target_path}
-use Rattle.install_world.specs.Moving.{ArePlaces, ChangesPlaces, HasFolders}
+use Rattle.install_world.specs.Moving.{ArePlaces, ChangesPlaces, HasFolders, is_kept}
 use Rattle.install_world.specs.PartFaults as parts
 use Rattle.install_world.specs.Recovery.{fault_of_journal, fault_of_part, fault_of_removal, fault_of_tree, is_vanished}
 use Rattle.install_world.specs.Removals.{OnlyRemoved}
@@ -40,9 +41,10 @@ use Rattle.install_world.specs.declared.removal_fault.RemoveFault.{RemoveFault}
 use Rattle.install_world.specs.declared.removal_fault.RemoveFault.TheVariants as removal_faults
 use Rattle.install_world.specs.declared.target.Target.{Target}
 use Rattle.install_world.proofs.FinishSteps.{made_elsewhere, work_not_above}
+use Rattle.install_world.proofs.KeptParts.{kept_alike}
 use Rattle.install_world.proofs.PartCleared.{removed_else}
 use Rattle.install_world.proofs.PartMoves.{folder_stays}
-use Rattle.install_world.proofs.PartPaths.{kept_is_work, kept_not_old, kept_not_staged, old_is_work, staged_is_work, staged_not_old, target_not_work, work_not_parent}
+use Rattle.install_world.proofs.PartPaths.{kept_is_work, kept_not_old, kept_not_staged, old_is_work, staged_is_work, staged_not_old, target_is_part, target_not_work, work_not_parent, work_not_part}
 use Rattle.install_world.proofs.RoomMade.{folder_is, old_under}
 use Rattle.install_world.proofs.WayMoves.{entry_is}
 
@@ -94,6 +96,28 @@ folder_shown t at kind is folder = by (entry_at t at) (sym is ∙ folder)
     by (Some entries.Folder) e = refl
     by (Some entries.Other) e = absurd cc
 
+pub some_shown : (t : FileTree) (at : List (List ℕ)) (kind : Kind) → kind ≡ kind_at t at → kind ≢ kinds.Absent → is_some (entry_at t at) ≡ true
+unfolding kind_at
+some_shown t at kind is other = by (entry_at t at) is
+  where
+    by : (entry : Option Entry) → kind ≡ kind_of entry → is_some entry ≡ true
+    by None e = absurd (other e)
+    by (Some entry) e = refl
+
+pub none_shown : (t : FileTree) (at : List (List ℕ)) (kind : Kind) → kind ≡ kind_at t at → kind ≡ kinds.Absent → is_some (entry_at t at) ≡ true → ⊥
+unfolding kind_at
+none_shown t at kind is absent some = by (entry_at t at) (sym is ∙ absent) some
+  where
+    by : (entry : Option Entry) → kind_of entry ≡ kinds.Absent → is_some entry ≡ true → ⊥
+    by None e there = false≢true there
+    by (Some (entries.File bytes)) e there = cc
+    by (Some entries.Folder) e there = cc
+    by (Some entries.Other) e there = cc
+
+pub folder_some : (entry : Option Entry) → is_folder entry ≡ true → is_some entry ≡ true
+folder_some None e = e
+folder_some (Some entry) e = refl
+
 pub made_is_folder : (t : FileTree) (at : List (List ℕ)) → is_folder (entry_at (changed t (changes.FolderMade at)) at) ≡ true
 made_is_folder t [] = refl
 made_is_folder t (x ∷ xs) =
@@ -117,7 +141,7 @@ target_is_some path is none = by is.place
     by (inl lock) = cc
     by (inr vendor) = let begins = vendor.1 in cc
 
-parent_behind : (project target above : List (List ℕ)) → without_last target ≡ Some above → without_last (project ++ target) ≡ Some (project ++ above)
+pub parent_behind : (project target above : List (List ℕ)) → without_last target ≡ Some above → without_last (project ++ target) ≡ Some (project ++ above)
 parent_behind project target above is =
     let ends = parent_of target above is in
     ap without_last (ap (λ p. project ++ p) ends.1 ∙ sym (append_assoc project above (ends.0 ∷ []))) ∙ without_last-snoc (project ++ above) ends.0
@@ -152,15 +176,18 @@ journal_under [] = refl
 journal_under (x ∷ xs) = refl
 
 module _ (project : List (List ℕ)) (t : FileTree) (tree : IsTree t) where
-  pub old_work : is_folder (entry_at t (old_path project)) ≡ true → map.get t (work_path project) ≡ Some entries.Folder
-  old_work stands =
-      let old = folder_is (map.get t (old_path project)) (ap is_folder (sym (entry_is t (old_path project) (old_under project))) ∙ stands) in
-      let above = ap (has_folder t) (sym (above_old project)) ∙ tree.below_folders (old_path project) (ap is_some old) in
+  pub work_above : is_some (entry_at t (old_path project)) ≡ true → map.get t (work_path project) ≡ Some entries.Folder
+  work_above stands =
+      let old : is_some (map.get t (old_path project)) ≡ true = ap is_some (sym (entry_is t (old_path project) (old_under project))) ∙ stands in
+      let above = ap (has_folder t) (sym (above_old project)) ∙ tree.below_folders (old_path project) old in
       sym (entry_is t (work_path project) (work_under project)) ∙ folder_is (entry_at t (work_path project)) above
 
-  pub old_project : is_folder (entry_at t (old_path project)) ≡ true → is_folder (entry_at t project) ≡ true
+  pub old_work : is_folder (entry_at t (old_path project)) ≡ true → map.get t (work_path project) ≡ Some entries.Folder
+  old_work stands = work_above (folder_some (entry_at t (old_path project)) stands)
+
+  pub old_project : is_some (entry_at t (old_path project)) ≡ true → is_folder (entry_at t project) ≡ true
   old_project stands =
-      ap (has_folder t) (sym (without_last-snoc project (codes ".install"))) ∙ tree.below_folders (work_path project) (ap is_some (old_work stands))
+      ap (has_folder t) (sym (without_last-snoc project (codes ".install"))) ∙ tree.below_folders (work_path project) (ap is_some (work_above stands))
 
   -- where the journal stands `.install` is a folder
   pub journal_above_old : (journal : Journal) → Stands project journal t → has_folder t (without_last (old_path project)) ≡ true
@@ -189,56 +216,63 @@ path_of_part targets number target all part =
 
 -- ---- they stay
 
-old_entry : (project : List (List ℕ)) (t u : FileTree) → map.get u (old_path project) ≡ map.get t (old_path project) → is_folder (entry_at t (old_path project)) ≡ true
-    → is_folder (entry_at u (old_path project)) ≡ true
-old_entry project t u same stands = ap is_folder (folder_stays t u (old_path project) same) ∙ stands
+old_entry : (project : List (List ℕ)) (t u : FileTree) → map.get u (old_path project) ≡ map.get t (old_path project) → entry_at u (old_path project) ≡ entry_at t (old_path project)
+old_entry project t u same = folder_stays t u (old_path project) same
 
-module _ (project : List (List ℕ)) (number : ℕ) (target : Target) (places : PartPlaces) (are : ArePlaces project number target places) (t v u : FileTree)
-    (made : OnlyMade (target_path project target) t v) (removed : OnlyRemoved places.kept v u) where
-  kept_removed : OnlyRemoved (kept_path project number) v u
-  kept_removed = subst (λ at. OnlyRemoved at v u) are.kept_is removed
+module _ (project : List (List ℕ)) (number : ℕ) (target : Target) (places : PartPlaces) (are : ArePlaces project number target places) where
+  pub made_old : (t v : FileTree) → OnlyMade (target_path project target) t v → entry_at v (old_path project) ≡ entry_at t (old_path project)
+  made_old t v made = old_entry project t v
+      (made_elsewhere (target_path project target) (old_path project) t v made (work_not_above project (old_path project) number target places are (old_is_work project)))
 
-  old_made : is_folder (entry_at t (old_path project)) ≡ true → is_folder (entry_at v (old_path project)) ≡ true
-  old_made stands = old_entry project t v
-      (made_elsewhere (target_path project target) (old_path project) t v made (work_not_above project (old_path project) number target places are (old_is_work project))) stands
+  module _ (v u : FileTree) (removed : OnlyRemoved places.kept v u) where
+    kept_removed : OnlyRemoved (kept_path project number) v u
+    kept_removed = subst (λ at. OnlyRemoved at v u) are.kept_is removed
 
-  pub old_ready : is_folder (entry_at t (old_path project)) ≡ true → is_folder (entry_at u (old_path project)) ≡ true
-  old_ready stands = old_entry project v u (removed_else (kept_path project number) (old_path project) v u kept_removed (kept_not_old project number)) (old_made stands)
+    removed_old : entry_at u (old_path project) ≡ entry_at v (old_path project)
+    removed_old = old_entry project v u (removed_else (kept_path project number) (old_path project) v u kept_removed (kept_not_old project number))
 
-  staged_was : IsThere u (staged_path project number) → IsThere t (staged_path project number)
-  staged_was there =
-      ap is_some (sym (made_elsewhere (target_path project target) (staged_path project number) t v made
-      (work_not_above project (staged_path project number) number target places are (staged_is_work project number))))
-      ∙ ap is_some (sym (removed_else (kept_path project number) (staged_path project number) v u kept_removed (kept_not_staged_itself)))
-      ∙ there
-    where
-      kept_not_staged_itself : behind (kept_path project number) (staged_path project number) ≡ None
-      kept_not_staged_itself = ap (behind (kept_path project number)) (sym (append-nil (staged_path project number))) ∙ kept_not_staged project number number []
+    removed_staged : map.get u (staged_path project number) ≡ map.get v (staged_path project number)
+    removed_staged = removed_else (kept_path project number) (staged_path project number) v u kept_removed kept_not_staged_itself
+      where
+        kept_not_staged_itself : behind (kept_path project number) (staged_path project number) ≡ None
+        kept_not_staged_itself = ap (behind (kept_path project number)) (sym (append-nil (staged_path project number))) ∙ kept_not_staged project number number []
 
-  parent_stays : has_folder v (without_last (target_path project target)) ≡ true → has_folder u (without_last (target_path project target)) ≡ true
-  parent_stays has = by (without_last (target_path project target)) refl has
-    where
-      by : (above : Option (List (List ℕ))) → without_last (target_path project target) ≡ above → has_folder v above ≡ true → has_folder u above ≡ true
-      by None e stands = stands
-      by (Some parent) e stands =
-          ap is_folder (folder_stays v u parent (removed_else (kept_path project number) parent v u kept_removed
-          (work_not_parent project parent (kept_path project number) target are.is_target (kept_is_work project number) e))) ∙ stands
+    removed_target : map.get u (target_path project target) ≡ map.get v (target_path project target)
+    removed_target = removed_else (kept_path project number) (target_path project target) v u kept_removed
+        (ap (behind (kept_path project number)) (sym (append-nil (target_path project target)))
+        ∙ work_not_part project (kept_path project number) (target_path project target ++ []) (kept_is_work project number) (target_is_part project [] target are.is_target))
 
-  pub folders_ready : is_folder (entry_at t (old_path project)) ≡ true
-      → (target.gone ≡ false → IsThere t places.staged → has_folder v (without_last (target_path project target)) ≡ true) → HasFolders project number target u
-  folders_ready stands parent = record {
-    old_folder = old_ready stands;
-    parent = λ goes there. parent_stays (parent goes (subst (IsThere t) (sym are.staged_is) (staged_was there)));
-  }
+    parent_stays : has_folder v (without_last (target_path project target)) ≡ true → has_folder u (without_last (target_path project target)) ≡ true
+    parent_stays has = by (without_last (target_path project target)) refl has
+      where
+        by : (above : Option (List (List ℕ))) → without_last (target_path project target) ≡ above → has_folder v above ≡ true → has_folder u above ≡ true
+        by None e stands = stands
+        by (Some parent) e stands =
+            ap is_folder (folder_stays v u parent (removed_else (kept_path project number) parent v u kept_removed
+            (work_not_parent project parent (kept_path project number) target are.is_target (kept_is_work project number) e))) ∙ stands
 
-pub old_prepared : (project : List (List ℕ)) (number : ℕ) (target : Target) (places : PartPlaces) → ArePlaces project number target places → (t u : FileTree)
-    → MakesReady (target_path project target) places.kept t u → is_folder (entry_at t (old_path project)) ≡ true → is_folder (entry_at u (old_path project)) ≡ true
-old_prepared project number target places are t u ready stands = old_ready project number target places are t ready.between u ready.made ready.removed stands
+    -- once folders were made and found, and what is kept was removed
+    pub folders_ready : (t : FileTree) → OnlyMade (target_path project target) t v
+        → (is_kept target.gone (kind_at v places.target) (kind_at v places.staged) ≡ true → is_folder (entry_at v (old_path project)) ≡ true)
+        → (target.gone ≡ false → IsThere t places.staged → has_folder v (without_last (target_path project target)) ≡ true) → HasFolders project number target u
+    folders_ready t made old parent = record {
+      old_folder = λ kept. ap is_folder removed_old
+          ∙ old (subst (λ at. is_kept target.gone (kind_at v at) (kind_at v places.staged) ≡ true) (sym are.target_is)
+          (subst (λ at. is_kept target.gone (kind_at v (target_path project target)) (kind_at v at) ≡ true) (sym are.staged_is)
+          (kept_alike target.gone v u (target_path project target) (staged_path project number)
+          (folder_stays v u (target_path project target) removed_target) (folder_stays v u (staged_path project number) removed_staged) kept)));
+      parent = λ goes there. parent_stays (parent goes (subst (IsThere t) (sym are.staged_is)
+          (ap is_some (sym (made_elsewhere (target_path project target) (staged_path project number) t v made
+          (work_not_above project (staged_path project number) number target places are (staged_is_work project number))))
+          ∙ ap is_some (sym removed_staged) ∙ there)));
+    }
 
-pub old_moved : (project : List (List ℕ)) (number : ℕ) (target : Target) (places : PartPlaces) → ArePlaces project number target places → (t u : FileTree) → ChangesPlaces places t u
-    → is_folder (entry_at t (old_path project)) ≡ true → is_folder (entry_at u (old_path project)) ≡ true
-old_moved project number target places are t u moves stands =
-    old_entry project t u (moves.others (old_path project)
-    (ap (λ at. behind at (old_path project)) are.target_is ∙ target_not_work project (old_path project) target are.is_target (old_is_work project))
-    (ap (λ at. behind at (old_path project)) are.staged_is ∙ staged_not_old project number)
-    (ap (λ at. behind at (old_path project)) are.kept_is ∙ kept_not_old project number)) stands
+  pub old_prepared : (t u : FileTree) → MakesReady (target_path project target) places.kept t u → entry_at u (old_path project) ≡ entry_at t (old_path project)
+  old_prepared t u ready = removed_old ready.between u ready.removed ∙ made_old t ready.between ready.made
+
+  pub old_moved : (t u : FileTree) → ChangesPlaces places t u → entry_at u (old_path project) ≡ entry_at t (old_path project)
+  old_moved t u moves =
+      old_entry project t u (moves.others (old_path project)
+      (ap (λ at. behind at (old_path project)) are.target_is ∙ target_not_work project (old_path project) target are.is_target (old_is_work project))
+      (ap (λ at. behind at (old_path project)) are.staged_is ∙ staged_not_old project number)
+      (ap (λ at. behind at (old_path project)) are.kept_is ∙ kept_not_old project number))

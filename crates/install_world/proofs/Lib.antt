@@ -1,4 +1,6 @@
 pub mod ApartPaths
+pub mod AtOnce
+pub mod BlockedParts
 pub mod Cuts
 pub mod EndsAlike
 pub mod FinishAgain
@@ -12,6 +14,7 @@ pub mod FoldersInOrder
 pub mod FoldersThere
 pub mod Grammar
 pub mod GrammarLines
+pub mod KeptParts
 pub mod LeavesGone
 pub mod LineWords
 pub mod OneJournal

@@ -63,7 +63,7 @@ module _ (way : Way) (t : FileTree) (on : IsOnWay way t) where
 pub way_folders : (way : Way) (project : List (List ℕ)) (t : FileTree) → way.project ≡ project → IsOnWay way t → (number : ℕ) (target : Target) → IsPart way.journal.targets number target
     → HasFolders project number target t
 way_folders way project t same on number target part = subst (λ p. HasFolders p number target t) same (record {
-  old_folder = way_old_folder way t on;
+  old_folder = λ kept. way_old_folder way t on;
   parent = λ goes there. way_parents way t on number target part;
 })
 

@@ -9,3 +9,5 @@ pub mod PartFaults
 pub mod Recovery
 pub mod Emptied
 pub mod Finishing
+pub mod AtOnce
+pub mod Blocked

@@ -10,11 +10,13 @@ ghost use Rattle.tree_dev.specs.declared.did.Did.TheVariants as dids;
 ghost use Rattle.tree_dev.specs.Disk.{reading};
 ghost use Rattle.tree_dev.specs.Steady.{EachImage, IsWhole, Through};
 ghost use Rattle.tree_dev.specs.Projects.{journal_path, work_path};
+ghost use Rattle.install_world.specs.Blocked.{IsBlocked, IsFirstBlocked};
 ghost use Rattle.install_world.specs.Finishing.{IsWithout, KeepsFinished, Stands, StopsAt};
-ghost use Rattle.install_world.specs.InFlight.{AreAllDone, HasJournal, IsInFlight, finished_by};
+ghost use Rattle.install_world.specs.InFlight.{AreAllDone, HasJournal, IsInFlight, IsPart, finished_by};
 ghost use Rattle.install_world.specs.Moving.{IsOnWay, Way};
 ghost use Rattle.install_world.specs.PartFaults.{is_device_fault, is_unfit, is_vanished};
 ghost use Rattle.install_world.specs.declared.part_fault.PartFault.TheVariants as faults;
+ghost use Rattle.install_world.specs.declared.target.Target.{Target as Targets};
 ghost use Rattle.install_world.specs.Recovery.{IsEnding, IsNewProject, IsRecovered};
 ghost use Rattle.install_world.specs.Removals.{OnlyRemoved, WritesNone};
 
@@ -108,6 +110,10 @@ pub(crate) fn finish_journal<T: Tree>(
     ensures ends { OfTold (T.meaning tree.old) (λ t. IsWhole (T.meaning tree.old).disks.now → (way : Way)
         → way.project ≡ project.now → way.journal ≡ journal.now → at.now ≡ journal_path project.now → EachImage (T.meaning tree.old) (IsOnWay way)
         → Through (T.meaning tree.old) (T.meaning tree.new) (IsEnding way)) }
+    ensures blocked { (path : List (List ℕ)) → result ≡ Err (faults.OtherEntry path) → OfTold (T.meaning tree.old) (λ t. Stands project.now journal.now t
+        → IsFirstBlocked project.now journal.now.targets t path) }
+    ensures free { OnOk result (OfTold (T.meaning tree.old) (λ t. Stands project.now journal.now t
+        → (number : ℕ) (target : Targets) → IsPart journal.now.targets number target → (path : List (List ℕ)) → IsBlocked project.now number target t path → ⊥)) }
 {
     let work = project.child(alloc, b".install")?;
     let old = work.child(alloc, b"old")?;

@@ -6,6 +6,7 @@ mod ending;
 mod fault;
 mod flight_laws;
 mod journal;
+mod kept;
 mod laws;
 mod lines;
 mod moving;

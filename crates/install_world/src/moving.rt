@@ -45,7 +45,7 @@ fn take_away<T: Tree>(tree: &mut T, places: &PartPlaces) -> Result<Did, Failed>
         → FinishesAlike project journal t (reading (T.meaning tree.new).disks.now)) }
     ensures fits { IfOk result (λ did. OfTold (T.meaning tree.old) (λ t. (project : List (List ℕ)) (number : ℕ) (target : Targets)
         → ArePlaces project number target places.now → HasFolders project number target t
-        → HasRoom true places.now t → did ≡ dids.Done)) }
+        → target.gone ≡ true → HasRoom true places.now t → did ≡ dids.Done)) }
 {
     match tree.stat(&places.target)? {
         Kind::Absent => Ok(Did::Done),
@@ -57,6 +57,7 @@ fn take_away<T: Tree>(tree: &mut T, places: &PartPlaces) -> Result<Did, Failed>
 fn is_free_for(kind: Kind, staged_is_file: bool) -> bool
     ensures free { result ≡ true → (kind ≡ kinds.Absent) ⊎ ((kind ≡ kinds.File) × (staged_is_file ≡ true)) }
     ensures taken { result ≡ false → kind ≢ kinds.Absent }
+    ensures other { result ≡ false → kind ≡ kinds.File → staged_is_file ≡ false }
 {
     match kind {
         Kind::Absent => true,

@@ -8,9 +8,10 @@ ghost use Rattle.path_name.specs.Paths.{without_last};
 ghost use Rattle.tree_dev.specs.Changes.{is_leaf, is_root};
 ghost use Rattle.tree_dev.specs.Device.{OfTold, OnlyRead};
 ghost use Rattle.tree_dev.specs.Disk.{reading};
-ghost use Rattle.tree_dev.specs.Projects.{file_at};
+ghost use Rattle.tree_dev.specs.Projects.{file_at, is_within};
 ghost use Rattle.tree_dev.specs.Steady.{EachImage, IsWhole, Through};
 ghost use Rattle.install_world.specs.InFlight.{AreAllDone, IsPart, IsPartDone, IsThere, old_path, target_path};
+ghost use Rattle.install_world.specs.Blocked.{IsAbove, IsBlocked, IsFirstBlocked, NeedsAlike};
 ghost use Rattle.install_world.specs.Finishing.{FinishesAlike, MakesReady, OnlyMade, Stands, StopsAt};
 ghost use Rattle.install_world.specs.Moving.{Way, IsOnWay, ArePlaces, HasFolders, HasRoom};
 ghost use Rattle.install_world.specs.Removals.{OnlyRemoved, Removes, WritesNone};
@@ -20,6 +21,7 @@ ghost use Rattle.install_world.specs.declared.part_fault.PartFault.TheVariants a
 ghost use Rattle.install_world.specs.declared.journal.Journal.{Journal as Journals};
 ghost use Rattle.install_world.specs.declared.target.Target.{Target as Targets};
 
+use crate::kept::find_folder_of_kept;
 use crate::{PartFault, PartPlaces, Target, move_part, remove_folder};
 use path_name::{Path, path_is_segments, push_number};
 use std::alloc::{AllocError, Global};
@@ -73,7 +75,7 @@ fn make_missing<T: Tree>(alloc: Global, tree: &mut T, at: &Path) -> Result<(), P
 }
 
 /// Makes a folder where nothing is. `OtherEntry`: an entry is there that is no folder.
-pub(crate) fn make_folder<T: Tree>(alloc: Global, tree: &mut T, at: &Path) -> Result<(), PartFault>
+fn need_folder<T: Tree>(alloc: Global, tree: &mut T, at: &Path) -> Result<(), PartFault>
     ensures writes_none { WritesNone (T.meaning tree.old) (T.meaning tree.new) (is_device_fault result) }
     ensures makes { OnlyMade at.now (reading (T.meaning tree.old).disks.now) (reading (T.meaning tree.new).disks.now) }
     ensures still { OfTold (T.meaning tree.old) (λ t. is_folder (entry_at t at.now) ≡ true → (T.meaning tree.new).disks ≡ (T.meaning tree.old).disks) }
@@ -81,11 +83,28 @@ pub(crate) fn make_folder<T: Tree>(alloc: Global, tree: &mut T, at: &Path) -> Re
     ensures cause { (path : List (List ℕ)) → result ≡ Err (faults.OtherEntry path) → OfTold (T.meaning tree.new) (λ t. is_leaf (entry_at t path) ≡ true) }
     ensures never_vanished { OfTold (T.meaning tree.old) (λ t. has_folder t (without_last at.now) ≡ true → is_vanished result ≡ false) }
     ensures there { OnOk result (OfTold (T.meaning tree.new) (λ t. is_folder (entry_at t at.now) ≡ true)) }
+    ensures at { (path : List (List ℕ)) → result ≡ Err (faults.OtherEntry path) → path ≡ at.now }
 {
     match tree.stat(at)? {
         Kind::Folder => Ok(()),
         Kind::Absent => make_missing(alloc, tree, at),
         _ => Err(PartFault::OtherEntry(at.copy(alloc)?)),
+    }
+}
+
+/// Makes a folder where nothing is. Another entry stays.
+pub(crate) fn make_folder<T: Tree>(alloc: Global, tree: &mut T, at: &Path) -> Result<(), PartFault>
+    ensures writes_none { WritesNone (T.meaning tree.old) (T.meaning tree.new) (is_device_fault result) }
+    ensures makes { OnlyMade at.now (reading (T.meaning tree.old).disks.now) (reading (T.meaning tree.new).disks.now) }
+    ensures still { OfTold (T.meaning tree.old) (λ t. is_folder (entry_at t at.now) ≡ true → (T.meaning tree.new).disks ≡ (T.meaning tree.old).disks) }
+    ensures fits { OfTold (T.meaning tree.old) (λ t. is_folder (entry_at t at.now) ≡ true → is_unfit result ≡ false) }
+    ensures not_other { (path : List (List ℕ)) → result ≡ Err (faults.OtherEntry path) → ⊥ }
+    ensures never_vanished { OfTold (T.meaning tree.old) (λ t. has_folder t (without_last at.now) ≡ true → is_vanished result ≡ false) }
+    ensures there { OnOk result (OfTold (T.meaning tree.new) (λ t. is_some (entry_at t at.now) ≡ true)) }
+{
+    match tree.stat(at)? {
+        Kind::Absent => make_missing(alloc, tree, at),
+        _ => Ok(()),
     }
 }
 
@@ -102,13 +121,14 @@ fn make_folders<T: Tree>(
     ensures never_vanished { OfTold (T.meaning tree.old) (λ t. is_folder (entry_at t project.now) ≡ true → is_vanished result ≡ false) }
     ensures there { OnOk result (OfTold (T.meaning tree.old) (λ t. is_folder (entry_at t project.now) ≡ true
         → OfTold (T.meaning tree.new) (λ u. is_folder (entry_at u (project.now ++ path.now)) ≡ true))) }
+    ensures within { (at : List (List ℕ)) → result ≡ Err (faults.OtherEntry at) → is_within at (project.now ++ path.now) ≡ true }
 {
     path_is_segments(path);
     let names = path.segments(alloc)?;
     let mut at = project.copy(alloc)?;
     for name in names.as_slice() {
         at.enter(name.as_slice())?;
-        make_folder(alloc, tree, &at)?;
+        need_folder(alloc, tree, &at)?;
     }
     Ok(())
 }
@@ -126,6 +146,8 @@ fn make_above<T: Tree>(
     ensures never_vanished { OfTold (T.meaning tree.old) (λ t. is_folder (entry_at t project.now) ≡ true → is_vanished result ≡ false) }
     ensures there { OnOk result (OfTold (T.meaning tree.old) (λ t. is_folder (entry_at t project.now) ≡ true → (above : List (List ℕ)) → without_last target.now ≡ Some above
         → OfTold (T.meaning tree.new) (λ u. is_folder (entry_at u (project.now ++ above)) ≡ true))) }
+    ensures above { (at : List (List ℕ)) → result ≡ Err (faults.OtherEntry at) → IsAbove (project.now ++ target.now) at }
+    ensures misses { map.get (reading (T.meaning tree.new).disks.now) (project.now ++ target.now) ≡ map.get (reading (T.meaning tree.old).disks.now) (project.now ++ target.now) }
 {
     match target.parent(alloc)? {
         None => Ok(()),
@@ -149,6 +171,8 @@ fn make_up_to<T: Tree>(
     ensures never_vanished { OfTold (T.meaning tree.old) (λ t. is_folder (entry_at t project.now) ≡ true → is_vanished result ≡ false) }
     ensures there { OnOk result (OfTold (T.meaning tree.old) (λ t. is_folder (entry_at t project.now) ≡ true → (above : List (List ℕ)) → without_last target.now ≡ Some above
         → parent.now ≡ project.now ++ above → OfTold (T.meaning tree.new) (λ u. is_folder (entry_at u parent.now) ≡ true))) }
+    ensures above { (at : List (List ℕ)) → result ≡ Err (faults.OtherEntry at) → IsAbove (project.now ++ target.now) at }
+    ensures misses { map.get (reading (T.meaning tree.new).disks.now) (project.now ++ target.now) ≡ map.get (reading (T.meaning tree.old).disks.now) (project.now ++ target.now) }
 {
     match tree.stat(parent)? {
         Kind::Folder => Ok(()),
@@ -172,6 +196,8 @@ fn make_parents<T: Tree>(
     ensures never_vanished { OfTold (T.meaning tree.old) (λ t. is_folder (entry_at t project.now) ≡ true → is_vanished result ≡ false) }
     ensures there { OnOk result (OfTold (T.meaning tree.old) (λ t. is_folder (entry_at t project.now) ≡ true → target.now ≢ []
         → OfTold (T.meaning tree.new) (λ u. has_folder u (without_last (project.now ++ target.now)) ≡ true))) }
+    ensures above { (at : List (List ℕ)) → result ≡ Err (faults.OtherEntry at) → IsAbove (project.now ++ target.now) at }
+    ensures misses { map.get (reading (T.meaning tree.new).disks.now) (project.now ++ target.now) ≡ map.get (reading (T.meaning tree.old).disks.now) (project.now ++ target.now) }
 {
     let whole = project.join(alloc, target)?;
     match whole.parent(alloc)? {
@@ -196,6 +222,7 @@ fn is_there<T: Tree>(tree: &mut T, at: &Path) -> Result<bool, Failed>
 fn is_to_be_put<T: Tree>(tree: &mut T, places: &PartPlaces, gone: bool) -> Result<bool, Failed>
     ensures only_read { OnlyRead (T.meaning tree.old) (T.meaning tree.new) (is_err result) }
     ensures needed { IfOk result (λ needed. needed ≡ false → OfTold (T.meaning tree.old) (λ t. gone ≡ false → IsThere t places.now.staged → ⊥)) }
+    ensures put { IfOk result (λ needed. needed ≡ true → (gone ≡ false) × OfTold (T.meaning tree.old) (λ t. is_root places.now.staged ≡ false → IsThere t places.now.staged)) }
 {
     if gone {
         return Ok(false);
@@ -220,6 +247,9 @@ fn make_needed<T: Tree>(
     ensures never_vanished { OfTold (T.meaning tree.old) (λ t. is_folder (entry_at t project.now) ≡ true → is_vanished result ≡ false) }
     ensures there { OnOk result (OfTold (T.meaning tree.old) (λ t. is_folder (entry_at t project.now) ≡ true → target.now.path ≢ [] → target.now.gone ≡ false → IsThere t places.now.staged
         → OfTold (T.meaning tree.new) (λ u. has_folder u (without_last (project.now ++ target.now.path)) ≡ true))) }
+    ensures above { (at : List (List ℕ)) → result ≡ Err (faults.OtherEntry at) → (target.now.gone ≡ false) × IsAbove (project.now ++ target.now.path) at
+        × OfTold (T.meaning tree.old) (λ t. is_root places.now.staged ≡ false → IsThere t places.now.staged) }
+    ensures misses { map.get (reading (T.meaning tree.new).disks.now) (project.now ++ target.now.path) ≡ map.get (reading (T.meaning tree.old).disks.now) (project.now ++ target.now.path) }
 {
     let needed = is_to_be_put(tree, places, target.gone)?;
     if needed {
@@ -356,8 +386,8 @@ fn clear_kept<T: Tree>(
     }
 }
 
-/// Makes ready what the moves of a part need: the folders above a target at which something is to be put, and nothing where
-/// what stands at a target is taken.
+/// Makes ready what the moves of a part need: the folders above a target at which something is to be put, and where what stands
+/// at a target is taken, a folder that keeps it, and nothing in its place there.
 fn prepare_part<T: Tree>(
     alloc: Global,
     tree: &mut T,
@@ -372,15 +402,21 @@ fn prepare_part<T: Tree>(
         → EachImage (T.meaning tree.old) (IsOnWay way) → Through (T.meaning tree.old) (T.meaning tree.new) (IsOnWay way)) }
     ensures room { OnOk result (OfTold (T.meaning tree.old) (λ t. is_root places.now.kept ≡ false → OfTold (T.meaning tree.new) (HasRoom target.now.gone places.now))) }
     ensures fits { OfTold (T.meaning tree.old) (λ t. is_root places.now.kept ≡ false → has_folder t (without_last (project.now ++ target.now.path)) ≡ true
-        → is_unfit result ≡ false) }
+        → is_folder (entry_at t (old_path project.now)) ≡ true → is_unfit result ≡ false) }
     ensures cause { (path : List (List ℕ)) → result ≡ Err (faults.OtherEntry path) → OfTold (T.meaning tree.new) (λ t. is_leaf (entry_at t path) ≡ true) }
-    ensures never_vanished { OfTold (T.meaning tree.old) (λ t. is_folder (entry_at t project.now) ≡ true → is_root places.now.kept ≡ false → is_vanished result ≡ false) }
+    ensures never_vanished { OfTold (T.meaning tree.old) (λ t. is_folder (entry_at t project.now) ≡ true → is_root places.now.kept ≡ false
+        → (number : ℕ) → ArePlaces project.now number target.now places.now → is_some (entry_at t (old_path project.now)) ≡ true → is_vanished result ≡ false) }
     ensures folders { OnOk result (OfTold (T.meaning tree.old) (λ t. is_folder (entry_at t project.now) ≡ true → (number : ℕ) → ArePlaces project.now number target.now places.now
-        → is_folder (entry_at t (old_path project.now)) ≡ true → OfTold (T.meaning tree.new) (HasFolders project.now number target.now))) }
+        → OfTold (T.meaning tree.new) (HasFolders project.now number target.now))) }
     ensures stays { (path : List (List ℕ)) → result ≡ Err (faults.OtherEntry path)
         → OnlyMade (project.now ++ target.now.path) (reading (T.meaning tree.old).disks.now) (reading (T.meaning tree.new).disks.now) }
+    ensures blocked { (at : List (List ℕ)) → result ≡ Err (faults.OtherEntry at) → OfTold (T.meaning tree.old) (λ t. (number : ℕ)
+        → ArePlaces project.now number target.now places.now → IsBlocked project.now number target.now t at) }
+    ensures free { OnOk result (OfTold (T.meaning tree.old) (λ t. is_folder (entry_at t project.now) ≡ true → (number : ℕ) → ArePlaces project.now number target.now places.now
+        → (at : List (List ℕ)) → IsBlocked project.now number target.now t at → ⊥)) }
 {
     make_needed(alloc, tree, project, target, places)?;
+    find_folder_of_kept(alloc, tree, project, places, target.gone)?;
     clear_kept(alloc, tree, places, target.gone)
 }
 
@@ -407,14 +443,21 @@ fn finish_part<T: Tree>(
         → way.project ≡ project.now → IsPart way.journal.targets number target.now
         → EachImage (T.meaning tree.old) (IsOnWay way) → is_unfit result ≡ false) }
     ensures cause { (path : List (List ℕ)) → result ≡ Err (faults.OtherEntry path) → OfTold (T.meaning tree.new) (λ t. is_leaf (entry_at t path) ≡ true) }
-    ensures never_vanished { OfTold (T.meaning tree.old) (λ t. IsTargetPath target.now.path → is_folder (entry_at t (old_path project.now)) ≡ true → is_vanished result ≡ false) }
-    ensures old { OfTold (T.meaning tree.old) (λ t. IsTargetPath target.now.path → is_folder (entry_at t (old_path project.now)) ≡ true
-        → is_folder (entry_at (reading (T.meaning tree.new).disks.now) (old_path project.now)) ≡ true) }
+    ensures never_vanished { OfTold (T.meaning tree.old) (λ t. IsTargetPath target.now.path → is_some (entry_at t (old_path project.now)) ≡ true → is_vanished result ≡ false) }
+    ensures old { OfTold (T.meaning tree.old) (λ t. IsTargetPath target.now.path → is_some (entry_at t (old_path project.now)) ≡ true
+        → is_some (entry_at (reading (T.meaning tree.new).disks.now) (old_path project.now)) ≡ true) }
     ensures stays { (path : List (List ℕ)) → result ≡ Err (faults.OtherEntry path)
         → OnlyMade (project.now ++ target.now.path) (reading (T.meaning tree.old).disks.now) (reading (T.meaning tree.new).disks.now) }
     ensures leaves { OfTold (T.meaning tree.old) (λ t. (journal : Journals) → Stands project.now journal t → IsPart journal.targets number target.now
         → (j : ℕ) (other : Targets) → (number ≡ j → ⊥) → IsPart journal.targets j other → (below : List (List ℕ))
         → file_at (reading (T.meaning tree.new).disks.now) (target_path project.now other ++ below) ≡ file_at t (target_path project.now other ++ below)) }
+    ensures blocked { (at : List (List ℕ)) → result ≡ Err (faults.OtherEntry at) → OfTold (T.meaning tree.old) (λ t. IsTargetPath target.now.path
+        → IsBlocked project.now number target.now t at) }
+    ensures free { OnOk result (OfTold (T.meaning tree.old) (λ t. IsTargetPath target.now.path → is_some (entry_at t (old_path project.now)) ≡ true
+        → (at : List (List ℕ)) → IsBlocked project.now number target.now t at → ⊥)) }
+    ensures needs { OfTold (T.meaning tree.old) (λ t. (journal : Journals) → Stands project.now journal t → IsPart journal.targets number target.now
+        → (j : ℕ) (other : Targets) → (number ≡ j → ⊥) → IsPart journal.targets j other
+        → NeedsAlike project.now j other t (reading (T.meaning tree.new).disks.now)) }
 {
     let places = places_of(alloc, project, number, target)?;
     prepare_part(alloc, tree, project, target, &places)?;
@@ -443,11 +486,16 @@ pub(crate) fn finish_parts<T: Tree>(
         → way.project ≡ project.now → way.journal.targets ≡ targets.now
         → EachImage (T.meaning tree.old) (IsOnWay way) → is_unfit result ≡ false) }
     ensures cause { (path : List (List ℕ)) → result ≡ Err (faults.OtherEntry path) → OfTold (T.meaning tree.new) (λ t. is_leaf (entry_at t path) ≡ true) }
-    ensures never_vanished { OfTold (T.meaning tree.old) (λ t. AreTargetPaths targets.now → is_folder (entry_at t (old_path project.now)) ≡ true → is_vanished result ≡ false) }
-    ensures old { OfTold (T.meaning tree.old) (λ t. AreTargetPaths targets.now → is_folder (entry_at t (old_path project.now)) ≡ true
-        → is_folder (entry_at (reading (T.meaning tree.new).disks.now) (old_path project.now)) ≡ true) }
+    ensures never_vanished { OfTold (T.meaning tree.old) (λ t. AreTargetPaths targets.now → is_some (entry_at t (old_path project.now)) ≡ true → is_vanished result ≡ false) }
+    ensures old { OfTold (T.meaning tree.old) (λ t. AreTargetPaths targets.now → is_some (entry_at t (old_path project.now)) ≡ true
+        → is_some (entry_at (reading (T.meaning tree.new).disks.now) (old_path project.now)) ≡ true) }
     ensures stops { (path : List (List ℕ)) → result ≡ Err (faults.OtherEntry path) → OfTold (T.meaning tree.old) (λ t. (journal : Journals)
         → journal.targets ≡ targets.now → Stands project.now journal t → (number : ℕ) × StopsAt project.now journal number t (reading (T.meaning tree.new).disks.now)) }
+    ensures blocked { (at : List (List ℕ)) → result ≡ Err (faults.OtherEntry at) → OfTold (T.meaning tree.old) (λ t. (journal : Journals) → journal.targets ≡ targets.now
+        → Stands project.now journal t → is_some (entry_at t (old_path project.now)) ≡ true → IsFirstBlocked project.now targets.now t at) }
+    ensures free { OnOk result (OfTold (T.meaning tree.old) (λ t. (journal : Journals) → journal.targets ≡ targets.now → Stands project.now journal t
+        → is_some (entry_at t (old_path project.now)) ≡ true → (j : ℕ) (other : Targets) → IsPart targets.now j other → (at : List (List ℕ))
+        → IsBlocked project.now j other t at → ⊥)) }
 {
     'targets: for (number, target) in targets.iter().enumerate() {
         finish_part(alloc, tree, project, number as u64, target)?;

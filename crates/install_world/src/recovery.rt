@@ -11,11 +11,15 @@ ghost use Rattle.tree_dev.specs.Projects.{journal_path, work_path};
 ghost use Rattle.tree_dev.specs.declared.entry.Entry.TheVariants as entries;
 ghost use Rattle.tree_dev.specs.declared.limits.LimitKind.{LimitKind as Limits};
 ghost use Rattle.tree_dev.specs.declared.limits.LimitKind.TheVariants as limits;
+ghost use Rattle.install_world.specs.AtOnce.{IsDueAtOnce, IsNoFile, IsStopped, IsUnreadable, NothingStops, RefusesAtOnce};
+ghost use Rattle.install_world.specs.Blocked.{IsBlocked};
 ghost use Rattle.install_world.specs.Finishing.{KeepsFinished, StopsAt};
-ghost use Rattle.install_world.specs.InFlight.{Files, HasFiles, HasJournal, IsFinishedProject, IsInFlight, IsThere, NoJournal};
+ghost use Rattle.install_world.specs.InFlight.{Files, HasFiles, HasJournal, IsFinishedProject, IsInFlight, IsPart, IsThere, NoJournal};
 ghost use Rattle.install_world.specs.JournalText.{IsBadJournal, Says};
 ghost use Rattle.install_world.specs.declared.journal.Journal.{Journal as Journals};
+ghost use Rattle.install_world.specs.declared.target.Target.{Target as Targets};
 ghost use Rattle.install_world.specs.Removals.{OnlyRemoved, WritesNone};
+ghost use Rattle.install_world.specs.declared.recovery_fault.RecoverFault.{RecoverFault as Faults};
 ghost use Rattle.install_world.specs.declared.recovery_fault.RecoverFault.TheVariants as faults;
 ghost use Rattle.install_world.specs.declared.recovery_fault.Recovered.TheVariants as did;
 ghost use Rattle.install_world.specs.Recovery.{CanBeFinished, CanRecover, HasBadJournal, IsLong, IsOtherEntry, IsReadable, IsRecovered, ended_by, is_device_fault, is_refused, is_vanished, recovered_in};
@@ -39,6 +43,10 @@ fn read_text<T: Tree>(alloc: Global, tree: &mut T, at: &Path) -> Result<Option<T
         × OfTold (T.meaning tree.old) (λ t. is_root at.now ≡ false → IsLong at.now t)) }
     ensures never_vanished { is_vanished result ≡ false }
     ensures readable { OnOk result (OfTold (T.meaning tree.old) (λ t. is_root at.now ≡ false → IsReadable at.now t)) }
+    ensures at_once { OfTold (T.meaning tree.old) (λ t. is_root at.now ≡ false → (fault : Faults) → IsUnreadable at.now t fault
+        → RefusesAtOnce fault (T.meaning tree.old) (T.meaning tree.new) result) }
+    ensures unread { (path : List (List ℕ)) → result ≡ Err (faults.OtherEntry path) → (path ≡ at.now)
+        × OfTold (T.meaning tree.old) (λ t. is_root at.now ≡ false → IsNoFile at.now t) }
 {
     match tree.read(alloc, at, FILE_BYTES)? {
         ReadAnswer::Bytes(text) => Ok(Some(text)),
@@ -113,6 +121,12 @@ fn finish_text<T: Tree>(
         → map.get t at.now ≡ Some (entries.File text.now) → length text.now < 2 ^ 64 → EachImage (T.meaning tree.old) (IsInFlight project.now surroundings old new)
         → EachImage (T.meaning tree.old) (λ left. IsFinishedProject project.now left files)
         → Through (T.meaning tree.old) (T.meaning tree.new) (λ left. IsFinishedProject project.now left files)) }
+    ensures at_once { (place : ℕ) → IsBadJournal text.now place → RefusesAtOnce (faults.BadJournal place) (T.meaning tree.old) (T.meaning tree.new) result }
+    ensures blocked { (path : List (List ℕ)) → result ≡ Err (faults.OtherEntry path) → OfTold (T.meaning tree.old) (λ t. at.now ≡ journal_path project.now
+        → map.get t at.now ≡ Some (entries.File text.now) → length text.now < 2 ^ 64 → IsStopped project.now t path) }
+    ensures free { OnOk result (OfTold (T.meaning tree.old) (λ t. (journal : Journals) → at.now ≡ journal_path project.now
+        → map.get t at.now ≡ Some (entries.File text.now) → length text.now < 2 ^ 64 → Says text.now journal
+        → (number : ℕ) (target : Targets) → IsPart journal.targets number target → (path : List (List ℕ)) → IsBlocked project.now number target t path → ⊥)) }
 {
     let journal = read_journal(alloc, text)?;
     tree.barrier()?;
@@ -153,6 +167,11 @@ fn finish_claimed<T: Tree>(
     ensures ends { OfTold (T.meaning tree.old) (λ t. (surroundings : FileTree) (old new files : Files) → work.now ≡ work_path project.now
         → EachImage (T.meaning tree.old) (IsInFlight project.now surroundings old new) → EachImage (T.meaning tree.old) (λ left. IsFinishedProject project.now left files)
         → Through (T.meaning tree.old) (T.meaning tree.new) (λ left. IsFinishedProject project.now left files)) }
+    ensures at_once { OfTold (T.meaning tree.old) (λ t. work.now ≡ work_path project.now → map.get t work.now ≡ Some entries.Folder
+        → (fault : Faults) → IsDueAtOnce project.now t fault → RefusesAtOnce fault (T.meaning tree.old) (T.meaning tree.new) result) }
+    ensures blocked { (path : List (List ℕ)) → result ≡ Err (faults.OtherEntry path) → OfTold (T.meaning tree.old) (λ t. work.now ≡ work_path project.now
+        → IsStopped project.now t path) }
+    ensures free { OnOk result (OfTold (T.meaning tree.old) (λ t. work.now ≡ work_path project.now → NothingStops project.now t)) }
 {
     let at = work.child(alloc, b"journal")?;
     match read_text(alloc, tree, &at)? {
@@ -201,6 +220,10 @@ pub fn finish_install<T: Tree>(
     ensures ends { OfTold (T.meaning tree.old) (λ t. (surroundings : FileTree) (old new files : Files)
         → EachImage (T.meaning tree.old) (IsInFlight project.now surroundings old new) → EachImage (T.meaning tree.old) (λ left. IsFinishedProject project.now left files)
         → Through (T.meaning tree.old) (T.meaning tree.new) (λ left. IsFinishedProject project.now left files)) }
+    ensures at_once { OfTold (T.meaning tree.old) (λ t. (fault : Faults) → IsDueAtOnce project.now t fault
+        → RefusesAtOnce fault (T.meaning tree.old) (T.meaning tree.new) result) }
+    ensures blocked { (path : List (List ℕ)) → result ≡ Err (faults.OtherEntry path) → OfTold (T.meaning tree.old) (λ t. IsStopped project.now t path) }
+    ensures free { OnOk result (OfTold (T.meaning tree.old) (NothingStops project.now)) }
 {
     let work = project.child(alloc, b".install")?;
     match tree.stat(&work)? {

@@ -82,6 +82,45 @@ static FIRST_DONE: [File; 6] = [
     File(b"vendor/c", b""),
 ];
 
+/// A file where the folder is to be that keeps what is taken away. Of the parts of a job, a file over a file and a new folder,
+/// none needs it.
+static NOTHING_KEPT: [File; 5] = [
+    File(
+        b".install/journal",
+        b"install-journal 2\ngeneration 1\nmove 0 636f6d706f7365722e6c6f636b\nmove 1 76656e646f722f63\nend\n",
+    ),
+    File(b".install/new/0", b"new"),
+    File(b".install/new/1/f", b"new"),
+    File(b".install/old", b"x"),
+    File(b"composer.lock", b"old"),
+];
+
+/// What then stands.
+static BOTH_DONE: [File; 3] = [
+    File(b"composer.lock", b"new"),
+    File(b"vendor/c/f", b"new"),
+    File(b".install", b""),
+];
+
+/// The same where the second part is to be gone, and so is to be kept.
+static ONE_KEPT: [File; 5] = [
+    File(
+        b".install/journal",
+        b"install-journal 2\ngeneration 1\nmove 0 636f6d706f7365722e6c6f636b\ngone 1 76656e646f722f63\nend\n",
+    ),
+    File(b".install/new/0", b"new"),
+    File(b".install/old", b"x"),
+    File(b"composer.lock", b"old"),
+    File(b"vendor/c/f", b"old"),
+];
+
+/// What then stands.
+static ONE_DONE: [File; 3] = [
+    File(b"composer.lock", b"new"),
+    File(b"vendor/c/f", b"old"),
+    File(b".install/old", b"x"),
+];
+
 /// A file that stands alone, and what recovery does with its tree.
 static ALONE: [(File, Outcome); 6] = [
     (
@@ -170,5 +209,17 @@ fn parts_before_a_blocked_one_are_done(rt: HostRuntime) -> Result<(), Fail> {
     let mut tree = tree_of(alloc, &BLOCKED)?;
     assert!(rt; recover_in(alloc, &mut tree)? == Outcome::OtherEntry);
     assert!(rt; all_stand(alloc, &mut tree, &FIRST_DONE)?);
+    Ok(())
+}
+
+#[test]
+fn folder_of_kept_parts_is_asked_for_where_one_is_kept(rt: HostRuntime) -> Result<(), Fail> {
+    let alloc = rt.alloc();
+    let mut tree = tree_of(alloc, &NOTHING_KEPT)?;
+    assert!(rt; recover_in(alloc, &mut tree)? == Outcome::Did(Recovered::Finished));
+    assert!(rt; all_stand(alloc, &mut tree, &BOTH_DONE)?);
+    let mut tree = tree_of(alloc, &ONE_KEPT)?;
+    assert!(rt; recover_in(alloc, &mut tree)? == Outcome::OtherEntry);
+    assert!(rt; all_stand(alloc, &mut tree, &ONE_DONE)?);
     Ok(())
 }

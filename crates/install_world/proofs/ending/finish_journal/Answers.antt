@@ -6,22 +6,27 @@ use Rattle.install_world.proofs.PartDone.{told_still}
 use Rattle.install_world.proofs.PartFinish.{parents_then, still_through, way_reads}
 use Rattle.install_world.proofs.RemovalRules.{writes_none_on, writes_none_start}
 use Rattle.install_world.proofs.Segments.{install_segment, old_segment}
-use Rattle.std.proofs.Common.{◌≡◌, ◌∙◌, ℕ, List, true, ap, refl, subst, sym}
+use Rattle.std.proofs.Common.{◌≡◌, ◌∙◌, ℕ, List, is_some, true, ap, refl, subst, sym}
 use Rattle.path_name.specs.Paths.{without_last}
-use Rattle.tree_dev.specs.Trees.{FileTree, entry_at, has_folder, is_folder}
+use Rattle.tree_dev.specs.Trees.{FileTree, entry_at, has_folder}
 use Rattle.tree_dev.specs.Projects.{work_path}
 use Rattle.install_world.proofs.RoomMade.{work_not_journal}
 use Rattle.install_world.specs.Finishing.{FinishesAlike}
 use Rattle.install_world.proofs.FinishSteps.{all_done_told, alike_old, alike_then, finished_without, stands_after, stands_here}
 use Rattle.install_world.specs.InFlight.{old_path}
 use Rattle.install_world.specs.Targets.{AreTargetPaths}
-use Rattle.install_world.proofs.FoldersThere.{journal_above_old, journal_is_file, old_work, stands_paths}
+use Rattle.install_world.proofs.FoldersThere.{journal_above_old, journal_is_file, stands_paths, work_above}
 use Rattle.tree_dev.specs.Disk.{reading}
 use Rattle.install_world.specs.Removals.{OnlyRemoved}
 use Rattle.install_world.proofs.FinishAgain.{keeps_alike, keeps_same, keeps_to_the_end}
 use Rattle.tree_dev.specs.Projects.{file_at}
 use Rattle.install_world.proofs.FinishStops.{made_leaves, stops_after, stops_at_once}
 use Rattle.install_world.proofs.EndsAlike.{nothing_ends, way_then_ends}
+use Rattle.install_world.specs.Finishing.{OnlyMade}
+use Rattle.install_world.specs.InFlight.{IsPart}
+use Rattle.install_world.specs.Blocked.{IsFirstBlocked}
+use Rattle.install_world.proofs.BlockedParts.{blocked_then, first_blocked_before, made_old_needs}
+use Rattle.install_world.proofs.FinishSteps.{stands_target}
 use Rattle.install_world.proofs.ending.finish_journal.Goals as goal
 
 pub child-requires : goal.child-requires
@@ -174,11 +179,11 @@ returns-clause-work g c = on_ok_weaker c.end_journal.result
     let then = told_still second third now.0 c.finish_parts.ensures.writes_none.tells now.1 in
     let disk = g.met.T.Tree.tells_its_disk c.make_folder.new.tree now.0 now.1 in
     let last = g.met.T.Tree.tells_its_disk c.finish_parts.new.tree then.0 then.1 in
-    let here = subst (λ (p : List (List ℕ)). is_folder (entry_at now.0 p) ≡ true) (old_is project c.in_ok-work.work c.in_ok-old.old c.in_ok-work.ensures c.in_ok-old.ensures) (c.in_ok-make_folder.ensures.there now.0 now.1) in
+    let here = subst (λ (p : List (List ℕ)). is_some (entry_at now.0 p) ≡ true) (old_is project c.in_ok-work.work c.in_ok-old.old c.in_ok-work.ensures c.in_ok-old.ensures) (c.in_ok-make_folder.ensures.there now.0 now.1) in
     let paths = subst AreTargetPaths (sym c.as_slice.ensures) (stands_paths project journal t stands) in
-    let kept = subst (λ (w : FileTree). is_folder (entry_at w (old_path project)) ≡ true) (sym last.reads) (c.finish_parts.ensures.old now.0 now.1 paths here) in
+    let kept = subst (λ (w : FileTree). is_some (entry_at w (old_path project)) ≡ true) (sym last.reads) (c.finish_parts.ensures.old now.0 now.1 paths here) in
     others then.0 then.1 u after (work_path project) (λ e. work_not_journal project (e ∙ is))
-    ∙ old_work project then.0 (g.met.T.Tree.tells_trees c.finish_parts.new.tree then.0 then.1) kept)
+    ∙ work_above project then.0 (g.met.T.Tree.tells_trees c.finish_parts.new.tree then.0 then.1) kept)
     c.end_journal.ensures.others
 
 pub returns-clause-finished : goal.returns-clause-finished
@@ -208,7 +213,7 @@ returns-in_err-make_folder-clause-cause g c = λ path is.
     let p = err_from_is_err_and c.from_residual-in_err-make_folder.result c.from_residual-in_err-make_folder.ensures.1 in
     let given = p.1 in
     let from = p.2 in
-    c.in_err-make_folder.ensures.cause path cc
+    absurd (c.in_err-make_folder.ensures.not_other path cc)
 
 pub returns-in_err-finish_parts-clause-cause : goal.returns-in_err-finish_parts-clause-cause
 returns-in_err-finish_parts-clause-cause g c = λ path is.
@@ -242,7 +247,7 @@ returns-in_err-finish_parts-clause-never_vanished g c =
     let project = c.args.project.now in
     let journal = c.args.journal.now in
     let now = told_still (g.T.Tree.meaning c.args.tree.now) (g.T.Tree.meaning c.make_folder.new.tree) t c.make_folder.ensures.writes_none.tells told in
-    let here = subst (λ (p : List (List ℕ)). is_folder (entry_at now.0 p) ≡ true) (old_is project c.in_ok-work.work c.in_ok-old.old c.in_ok-work.ensures c.in_ok-old.ensures) (c.in_ok-make_folder.ensures.there now.0 now.1) in
+    let here = subst (λ (p : List (List ℕ)). is_some (entry_at now.0 p) ≡ true) (old_is project c.in_ok-work.work c.in_ok-old.old c.in_ok-work.ensures c.in_ok-old.ensures) (c.in_ok-make_folder.ensures.there now.0 now.1) in
     let paths = subst AreTargetPaths (sym c.as_slice.ensures) (stands_paths project journal t stands) in
     c.in_err-finish_parts.ensures.never_vanished now.0 now.1 paths here)
 
@@ -391,3 +396,56 @@ returns-clause-ends g c = λ t told whole way same by is each.
     (all_done_of way c.args.project.now c.as_slice.result.now then.0 third same targets (g.met.T.Tree.tells_its_disk c.finish_parts.new.tree then.0 then.1)
     (c.in_ok-finish_parts.ensures.done now.0 now.1 way.journal targets
     (stands_here way c.args.project.now second now.0 same (g.met.T.Tree.tells_its_disk c.make_folder.new.tree now.0 now.1) here))) each_third)
+
+pub returns-in_err-make_folder-clause-blocked : goal.returns-in_err-make_folder-clause-blocked
+returns-in_err-make_folder-clause-blocked g c = λ path is.
+    let p = err_from_is_err_and c.from_residual-in_err-make_folder.result c.from_residual-in_err-make_folder.ensures.1 in
+    let given = p.1 in
+    let from = p.2 in
+    absurd (c.in_err-make_folder.ensures.not_other path cc)
+
+pub returns-in_err-finish_parts-clause-blocked : goal.returns-in_err-finish_parts-clause-blocked
+returns-in_err-finish_parts-clause-blocked g c = λ path is.
+    let p = err_from_is_err_and c.from_residual-in_err-finish_parts.result c.from_residual-in_err-finish_parts.ensures.1 in
+    let given = p.1 in
+    let from = p.2 in
+    let found = c.in_err-finish_parts.ensures.blocked path cc in
+    λ t told stands.
+    let project = c.args.project.now in
+    let journal = c.args.journal.now in
+    let first = g.T.Tree.meaning c.args.tree.now in
+    let second = g.T.Tree.meaning c.make_folder.new.tree in
+    let was = g.met.T.Tree.tells_its_disk c.args.tree.now t told in
+    let is_old = old_is project c.in_ok-work.work c.in_ok-old.old c.in_ok-work.ensures c.in_ok-old.ensures in
+    let made = alike_old project c.in_ok-old.old journal t first second was is_old c.make_folder.ensures.makes in
+    let now = told_still first second t c.make_folder.ensures.writes_none.tells told in
+    let disk = g.met.T.Tree.tells_its_disk c.make_folder.new.tree now.0 now.1 in
+    let then = stands_after project journal t now.0 second disk stands made in
+    let old = subst (λ (p : List (List ℕ)). is_some (entry_at now.0 p) ≡ true) is_old (c.in_ok-make_folder.ensures.there now.0 now.1) in
+    let makes : OnlyMade (old_path project) t now.0 = subst (λ (p : List (List ℕ)). OnlyMade p t now.0) is_old (subst (λ (w : FileTree). OnlyMade c.in_ok-old.old t w) (sym disk.reads)
+    (subst (λ (w : FileTree). OnlyMade c.in_ok-old.old w (reading second.disks.now)) (sym was.reads) c.make_folder.ensures.makes)) in
+    first_blocked_before project journal.targets t now.0 (λ number target part. made_old_needs project number target (stands_target project journal t stands number target part) t now.0 makes) path
+    (subst (λ targets. IsFirstBlocked project targets now.0 path) c.as_slice.ensures (found now.0 now.1 journal (sym c.as_slice.ensures) then old))
+
+pub returns-clause-blocked : goal.returns-clause-blocked
+returns-clause-blocked g c = λ path is. absurd (c.end_journal.ensures.not_other path is)
+
+pub returns-clause-free : goal.returns-clause-free
+returns-clause-free g c = on_ok_weaker c.end_journal.result
+    (λ others t told stands number target part path blocked.
+    let project = c.args.project.now in
+    let journal = c.args.journal.now in
+    let first = g.T.Tree.meaning c.args.tree.now in
+    let second = g.T.Tree.meaning c.make_folder.new.tree in
+    let was = g.met.T.Tree.tells_its_disk c.args.tree.now t told in
+    let is_old = old_is project c.in_ok-work.work c.in_ok-old.old c.in_ok-work.ensures c.in_ok-old.ensures in
+    let made = alike_old project c.in_ok-old.old journal t first second was is_old c.make_folder.ensures.makes in
+    let now = told_still first second t c.make_folder.ensures.writes_none.tells told in
+    let disk = g.met.T.Tree.tells_its_disk c.make_folder.new.tree now.0 now.1 in
+    let then = stands_after project journal t now.0 second disk stands made in
+    let old = subst (λ (p : List (List ℕ)). is_some (entry_at now.0 p) ≡ true) is_old (c.in_ok-make_folder.ensures.there now.0 now.1) in
+    let makes : OnlyMade (old_path project) t now.0 = subst (λ (p : List (List ℕ)). OnlyMade p t now.0) is_old (subst (λ (w : FileTree). OnlyMade c.in_ok-old.old t w) (sym disk.reads)
+    (subst (λ (w : FileTree). OnlyMade c.in_ok-old.old w (reading second.disks.now)) (sym was.reads) c.make_folder.ensures.makes)) in
+    c.in_ok-finish_parts.ensures.free now.0 now.1 journal (sym c.as_slice.ensures) then old number target (subst (λ targets. IsPart targets number target) (sym c.as_slice.ensures) part) path
+    (blocked_then project number target t now.0 (made_old_needs project number target (stands_target project journal t stands number target part) t now.0 makes) path blocked))
+    c.end_journal.ensures.others

@@ -14,6 +14,12 @@ use Rattle.install_world.proofs.PartDone.{absent_is_none}
 use Rattle.install_world.proofs.PlacesFree.{file_by_kind, if_ok_two, placed_is_done, put_after_take, put_has_place, put_over_file, take_has_place, told_changed, told_same}
 use Rattle.install_world.proofs.WayMoves.{there_by_kind}
 use Rattle.install_world.proofs.FinishSteps.{alike_read, alike_taken, reads_then}
+use Rattle.std.proofs.Common.{ap}
+use Rattle.tree_dev.specs.Trees.{entry_at, kind_at}
+use Rattle.tree_dev.specs.Changes.{is_file}
+use Rattle.install_world.specs.InFlight.{staged_path, target_path}
+use Rattle.install_world.proofs.KeptParts.{replaced_is_kept}
+use Rattle.install_world.proofs.WayMoves.{staged_under}
 use Rattle.install_world.proofs.moving.make_way.Goals as goal
 
 pub returns-in_err-kind-clause-writes_none : goal.returns-in_err-kind-clause-writes_none
@@ -75,7 +81,11 @@ returns-clause-fits g c = if_ok_two c.rename.result _ _ _
     let none = room.free at_target (inr there) in
     let then = c.stat.ensures.only_read.told ∙ told in
     let done = placed_is_done t (changes.Renamed c.args.places.now.target c.args.places.now.kept) answer (is t then)
-    (take_has_place project number target c.args.places.now are t folders.old_folder at_target none) in (
+    (take_has_place project number target c.args.places.now are t
+    (folders.old_folder (replaced_is_kept target.gone t (target_path project target) (staged_path project number) goes c.in_ok-kind.kind c.args.staged_is_file
+    (c.in_ok-kind.ensures.kind t told ∙ ap (kind_at t) are.target_is) (c.is_free_for-free.ensures.taken c.if-free.false) (c.is_free_for-free.ensures.other c.if-free.false)
+    (staged_under project number) (subst (IsThere t) are.staged_is there) (leaf ∙ ap (λ at. is_file (entry_at t at)) are.staged_is)))
+    at_target none) in (
       done,
       λ u now. subst (λ (w : FileTree). has_place w (changes.Renamed c.args.places.now.staged c.args.places.now.target) ≡ true)
           (told_changed _ _ t u (changes.Renamed c.args.places.now.target c.args.places.now.kept) (adds done t then).told then now)

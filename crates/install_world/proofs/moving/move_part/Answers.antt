@@ -79,7 +79,7 @@ returns-in-File-clause-done g c = IfOk-weaker c.put.result _ _
 pub returns-then-gone-clause-fits : goal.returns-then-gone-clause-fits
 returns-then-gone-clause-fits g c = IfOk-weaker c.take_away.result _ _
     (λ answer placed t told project number target are folders is room.
-    placed t told project number target are folders (subst (λ mark. HasRoom mark c.args.places.now t) c.if-gone.true room))
+    placed t told project number target are folders (is ∙ c.if-gone.true) (subst (λ mark. HasRoom mark c.args.places.now t) c.if-gone.true room))
     c.take_away.ensures.fits
 
 pub returns-in-File-clause-fits : goal.returns-in-File-clause-fits

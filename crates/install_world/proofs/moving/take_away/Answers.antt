@@ -10,6 +10,10 @@ use Rattle.install_world.proofs.PartCleared.{places_under}
 use Rattle.install_world.proofs.PlacesFree.{placed_is_done, take_has_place}
 use Rattle.install_world.proofs.WayMoves.{there_by_kind}
 use Rattle.install_world.proofs.FinishSteps.{alike_read, alike_taken, reads_then}
+use Rattle.std.proofs.Common.{ap}
+use Rattle.tree_dev.specs.Trees.{kind_at}
+use Rattle.install_world.specs.InFlight.{staged_path, target_path}
+use Rattle.install_world.proofs.KeptParts.{gone_is_kept}
 use Rattle.install_world.proofs.moving.take_away.Goals as goal
 
 pub returns-in_err-stat-clause-writes_none : goal.returns-in_err-stat-clause-writes_none
@@ -61,11 +65,14 @@ returns-in_default-clause-done g c = IfOk-weaker c.rename.result _ _
 
 pub returns-in_default-clause-fits : goal.returns-in_default-clause-fits
 returns-in_default-clause-fits g c = IfOk-weaker c.rename.result _ _
-    (λ answer is t told project number target are folders room.
+    (λ answer is t told project number target are folders goes room.
     let there = there_by_kind t c.args.places.now.target c.in_ok-stat.field-0 (places_under project number target c.args.places.now are)
     (c.in_ok-stat.ensures.kind t told) c.in_default.not-Absent in
     placed_is_done t (changes.Renamed c.args.places.now.target c.args.places.now.kept) answer (is t (c.stat.ensures.only_read.told ∙ told))
-    (take_has_place project number target c.args.places.now are t folders.old_folder there (room.free there (inl refl))))
+    (take_has_place project number target c.args.places.now are t
+    (folders.old_folder (gone_is_kept target.gone (kind_at t (target_path project target)) (kind_at t (staged_path project number)) goes
+    (λ absent. c.in_default.not-Absent (c.in_ok-stat.ensures.kind t told ∙ ap (kind_at t) are.target_is ∙ absent))))
+    there (room.free there (inl refl))))
     c.rename.ensures.answer
 
 pub returns-in_err-stat-clause-alike : goal.returns-in_err-stat-clause-alike

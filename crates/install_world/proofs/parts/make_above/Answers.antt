@@ -2,6 +2,9 @@ use Rattle.std.proofs.Common.{◌≡◌, ◌∙◌, ◌++◌, ℕ, List, Some, t
 use Rattle.std.proofs.lemmas.Result.{err_from_is_err_and, on_ok_weaker}
 use Rattle.tree_dev.specs.Trees.{entry_at, is_folder}
 use Rattle.install_world.proofs.FinishSteps.{made_itself, made_wider, parent_within}
+use Rattle.install_world.proofs.BlockedParts.{not_above_itself}
+use Rattle.install_world.proofs.FinishSteps.{made_elsewhere}
+use Rattle.install_world.proofs.FoldersThere.{parent_behind}
 use Rattle.install_world.proofs.parts.make_above.Goals as goal
 
 pub returns-in_err-parent-clause-makes : goal.returns-in_err-parent-clause-makes
@@ -31,3 +34,22 @@ returns-in-Some-clause-there g c = on_ok_weaker c.make_folders.result
     let same : c.in-Some.above ≡ above = cc in
     subst (λ (p : List (List ℕ)). is_folder (entry_at u (c.args.project.now ++ p)) ≡ true) same (there t told folder u now))
     c.make_folders.ensures.there
+
+pub returns-in-Some-clause-above : goal.returns-in-Some-clause-above
+returns-in-Some-clause-above g c = λ at is. record {
+  parent = c.args.project.now ++ c.in-Some.above;
+  parent_is = parent_behind c.args.project.now c.args.target.now c.in-Some.above (sym c.in_ok-parent.ensures ∙ c.in-Some.is);
+  within = c.make_folders.ensures.within at is;
+}
+
+pub returns-in_err-parent-clause-misses : goal.returns-in_err-parent-clause-misses
+returns-in_err-parent-clause-misses g c = refl
+
+pub returns-in-None-clause-misses : goal.returns-in-None-clause-misses
+returns-in-None-clause-misses g c = refl
+
+pub returns-in-Some-clause-misses : goal.returns-in-Some-clause-misses
+returns-in-Some-clause-misses g c =
+    made_elsewhere (c.args.project.now ++ c.in-Some.above) (c.args.project.now ++ c.args.target.now) _ _ c.make_folders.ensures.makes
+    (not_above_itself (c.args.project.now ++ c.args.target.now) (c.args.project.now ++ c.in-Some.above)
+    (parent_behind c.args.project.now c.args.target.now c.in-Some.above (sym c.in_ok-parent.ensures ∙ c.in-Some.is)))

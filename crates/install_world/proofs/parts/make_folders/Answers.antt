@@ -68,29 +68,29 @@ pub loop-name-preserved : goal.loop-name-preserved
 loop-name-preserved g c =
     let entered = (goal.at.loop-name-preserved g c).In_ok-enter in
     record {
-      writes_none = writes_none_on _ _ _ _ c.in_ok-make_folder.ensures.writes_none c.loop-name.invariant.writes_none;
+      writes_none = writes_none_on _ _ _ _ c.in_ok-need_folder.ensures.writes_none c.loop-name.invariant.writes_none;
       makes = made_on (c.args.project.now ++ c.args.path.now) _ _ _ c.loop-name.invariant.makes
-          (made_wider (c.args.project.now ++ c.args.path.now) c.enter.new.self _ _ (within_is g entered) c.make_folder.ensures.makes);
+          (made_wider (c.args.project.now ++ c.args.path.now) c.enter.new.self _ _ (within_is g entered) c.need_folder.ensures.makes);
       at = at_is g entered;
-      there = λ t told folder u now. c.in_ok-make_folder.ensures.there u now;
+      there = λ t told folder u now. c.in_ok-need_folder.ensures.there u now;
     }
 
-pub returns-in_err-make_folder-clause-writes_none : goal.returns-in_err-make_folder-clause-writes_none
-returns-in_err-make_folder-clause-writes_none g c =
-    let p = err_from_is_err_and c.from_residual-in_err-make_folder.result c.from_residual-in_err-make_folder.ensures.1 in
-    rw (p.1, p.2) (writes_none_on _ _ _ _ c.in_err-make_folder.ensures.writes_none c.loop-name.invariant.writes_none)
+pub returns-in_err-need_folder-clause-writes_none : goal.returns-in_err-need_folder-clause-writes_none
+returns-in_err-need_folder-clause-writes_none g c =
+    let p = err_from_is_err_and c.from_residual-in_err-need_folder.result c.from_residual-in_err-need_folder.ensures.1 in
+    rw (p.1, p.2) (writes_none_on _ _ _ _ c.in_err-need_folder.ensures.writes_none c.loop-name.invariant.writes_none)
 
-pub returns-in_err-make_folder-clause-makes : goal.returns-in_err-make_folder-clause-makes
-returns-in_err-make_folder-clause-makes g c =
+pub returns-in_err-need_folder-clause-makes : goal.returns-in_err-need_folder-clause-makes
+returns-in_err-need_folder-clause-makes g c =
     made_on (c.args.project.now ++ c.args.path.now) _ _ _ c.loop-name.invariant.makes
-    (made_wider (c.args.project.now ++ c.args.path.now) c.enter.new.self _ _ (within_is g (goal.at.returns-in_err-make_folder-clause-makes g c).In_ok-enter) c.make_folder.ensures.makes)
+    (made_wider (c.args.project.now ++ c.args.path.now) c.enter.new.self _ _ (within_is g (goal.at.returns-in_err-need_folder-clause-makes g c).In_ok-enter) c.need_folder.ensures.makes)
 
-pub returns-in_err-make_folder-clause-cause : goal.returns-in_err-make_folder-clause-cause
-returns-in_err-make_folder-clause-cause g c = λ path is.
-    let p = err_from_is_err_and c.from_residual-in_err-make_folder.result c.from_residual-in_err-make_folder.ensures.1 in
+pub returns-in_err-need_folder-clause-cause : goal.returns-in_err-need_folder-clause-cause
+returns-in_err-need_folder-clause-cause g c = λ path is.
+    let p = err_from_is_err_and c.from_residual-in_err-need_folder.result c.from_residual-in_err-need_folder.ensures.1 in
     let given = p.1 in
     let from = p.2 in
-    c.in_err-make_folder.ensures.cause path cc
+    c.in_err-need_folder.ensures.cause path cc
 
 pub returns-in_err-names-clause-never_vanished : goal.returns-in_err-names-clause-never_vanished
 returns-in_err-names-clause-never_vanished g c = let p = err_from_is_err_and c.from_residual.result c.from_residual.ensures.1 in rw (p.1, p.2) (λ t told folder. refl)
@@ -101,12 +101,12 @@ returns-in_err-at-clause-never_vanished g c = let p = err_from_is_err_and c.from
 pub returns-in_err-enter-clause-never_vanished : goal.returns-in_err-enter-clause-never_vanished
 returns-in_err-enter-clause-never_vanished g c = let p = err_from_is_err_and c.from_residual-in_err-enter.result c.from_residual-in_err-enter.ensures.1 in rw (p.1, p.2) (λ t told folder. refl)
 
-pub returns-in_err-make_folder-clause-never_vanished : goal.returns-in_err-make_folder-clause-never_vanished
-returns-in_err-make_folder-clause-never_vanished g c =
-    let p = err_from_is_err_and c.from_residual-in_err-make_folder.result c.from_residual-in_err-make_folder.ensures.1 in
+pub returns-in_err-need_folder-clause-never_vanished : goal.returns-in_err-need_folder-clause-never_vanished
+returns-in_err-need_folder-clause-never_vanished g c =
+    let p = err_from_is_err_and c.from_residual-in_err-need_folder.result c.from_residual-in_err-need_folder.ensures.1 in
     rw (p.1, p.2) (λ t told folder.
     let here = told_still (g.T.Tree.meaning c.args.tree.now) (g.T.Tree.meaning c.loop-name.tree) t c.loop-name.invariant.writes_none.tells told in
-    c.in_err-make_folder.ensures.never_vanished here.0 here.1
+    c.in_err-need_folder.ensures.never_vanished here.0 here.1
     (ap (λ (at : List (List ℕ)). has_folder here.0 (without_last at)) c.in_ok-enter.ensures.entered ∙ ap (has_folder here.0) (without_last-snoc c.loop-name.at c.as_slice.result.now)
     ∙ c.loop-name.invariant.there t told folder here.0 here.1))
 
@@ -116,3 +116,12 @@ returns-clause-there g c = λ t told folder u now.
     (c.loop-name.invariant.at ∙ ap (λ (ns : List (List ℕ)). c.args.project.now ++ ns)
     (take_all c.loop-name.name-index c.as_slice-name-items.result.now (omega (arith, c.loop-name-test.false)) ∙ c.as_slice-name-items.ensures.value ∙ c.in_ok-names.ensures))
     (c.loop-name.invariant.there t told folder u now)
+
+pub returns-in_err-need_folder-clause-within : goal.returns-in_err-need_folder-clause-within
+returns-in_err-need_folder-clause-within g c = λ path is.
+    let p = err_from_is_err_and c.from_residual-in_err-need_folder.result c.from_residual-in_err-need_folder.ensures.1 in
+    let given = p.1 in
+    let from = p.2 in
+    let found = c.in_err-need_folder.ensures.at path cc in
+    ap (λ (at : List (List ℕ)). is_within at (c.args.project.now ++ c.args.path.now)) found
+    ∙ within_is g (goal.at.returns-in_err-need_folder-clause-within g c).In_ok-enter

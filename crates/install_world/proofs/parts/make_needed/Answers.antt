@@ -2,6 +2,10 @@ use Rattle.std.proofs.Common.{◌∙◌, refl}
 use Rattle.std.proofs.lemmas.Result.{err_from_is_err_and, on_ok_weaker}
 use Rattle.install_world.proofs.FinishSteps.{made_on, made_read}
 use Rattle.install_world.proofs.RemovalRules.{writes_none_on, writes_none_read, writes_none_start}
+use Rattle.std.proofs.Common.{ap, ◌++◌}
+use Rattle.std.specs.FinMap as map
+use Rattle.tree_dev.specs.Trees.{FileTree}
+use Rattle.install_world.proofs.PartDone.{reads_same}
 use Rattle.install_world.proofs.parts.make_needed.Goals as goal
 
 pub returns-in_err-needed-clause-writes_none : goal.returns-in_err-needed-clause-writes_none
@@ -54,3 +58,18 @@ returns-then-needed-clause-there g c = on_ok_weaker c.make_parents.result
 
 pub returns-clause-there : goal.returns-clause-there
 returns-clause-there g c = λ t told folder some goes staged u now. absurd (c.in_ok-needed.ensures.needed c.if-needed.false t told goes staged)
+
+pub returns-then-needed-clause-above : goal.returns-then-needed-clause-above
+returns-then-needed-clause-above g c = λ at is.
+    let put = c.in_ok-needed.ensures.put c.if-needed.true in
+    (put.0, c.make_parents.ensures.above at is, put.1)
+
+pub returns-in_err-needed-clause-misses : goal.returns-in_err-needed-clause-misses
+returns-in_err-needed-clause-misses g c = ap (λ (w : FileTree). map.get w (c.args.project.now ++ c.args.target.now.path)) (reads_same _ _ _ c.is_to_be_put.ensures.only_read)
+
+pub returns-then-needed-clause-misses : goal.returns-then-needed-clause-misses
+returns-then-needed-clause-misses g c =
+    c.make_parents.ensures.misses ∙ ap (λ (w : FileTree). map.get w (c.args.project.now ++ c.args.target.now.path)) (reads_same _ _ _ c.is_to_be_put.ensures.only_read)
+
+pub returns-clause-misses : goal.returns-clause-misses
+returns-clause-misses g c = ap (λ (w : FileTree). map.get w (c.args.project.now ++ c.args.target.now.path)) (reads_same _ _ _ c.is_to_be_put.ensures.only_read)

@@ -38,3 +38,18 @@ returns-clause-there g c = on_ok_weaker c.make_up_to.result
     let same : c.in-Some.parent ≡ c.args.project.now ++ found.0 = cc in
     ap (has_folder u) (found.2 ∙ sym both) ∙ there t told folder found.0 found.1 same u now)
     c.make_up_to.ensures.there
+
+pub returns-clause-above : goal.returns-clause-above
+returns-clause-above g c = λ at is. c.make_up_to.ensures.above at is
+
+pub returns-in_err-whole-clause-misses : goal.returns-in_err-whole-clause-misses
+returns-in_err-whole-clause-misses g c = refl
+
+pub returns-in_err-parent-clause-misses : goal.returns-in_err-parent-clause-misses
+returns-in_err-parent-clause-misses g c = refl
+
+pub returns-in-None-clause-misses : goal.returns-in-None-clause-misses
+returns-in-None-clause-misses g c = refl
+
+pub returns-clause-misses : goal.returns-clause-misses
+returns-clause-misses g c = c.make_up_to.ensures.misses

@@ -5,6 +5,10 @@ use Rattle.std.proofs.Common.{◌≡◌, ◌∙◌, ℕ, List, true, refl, subst
 use Rattle.tree_dev.specs.Trees.{entry_at, is_folder}
 use Rattle.install_world.proofs.FinishSteps.{made_on, made_read}
 use Rattle.install_world.proofs.FoldersThere.{folder_shown}
+use Rattle.std.proofs.Common.{ap, ◌++◌}
+use Rattle.std.specs.FinMap as map
+use Rattle.tree_dev.specs.Trees.{FileTree}
+use Rattle.install_world.proofs.PartDone.{reads_same}
 use Rattle.install_world.proofs.parts.make_up_to.Goals as goal
 
 pub returns-in_err-stat-clause-writes_none : goal.returns-in_err-stat-clause-writes_none
@@ -60,3 +64,16 @@ returns-in_default-clause-there g c = on_ok_weaker c.make_above.result
     (λ there t told folder above is same u now.
     subst (λ (p : List (List ℕ)). is_folder (entry_at u p) ≡ true) (sym same) (there t (c.stat.ensures.only_read.told ∙ told) folder above is u now))
     c.make_above.ensures.there
+
+pub returns-in_default-clause-above : goal.returns-in_default-clause-above
+returns-in_default-clause-above g c = λ at is. c.make_above.ensures.above at is
+
+pub returns-in_err-stat-clause-misses : goal.returns-in_err-stat-clause-misses
+returns-in_err-stat-clause-misses g c = ap (λ (w : FileTree). map.get w (c.args.project.now ++ c.args.target.now)) (reads_same _ _ _ c.stat.ensures.only_read)
+
+pub returns-in-Folder-clause-misses : goal.returns-in-Folder-clause-misses
+returns-in-Folder-clause-misses g c = ap (λ (w : FileTree). map.get w (c.args.project.now ++ c.args.target.now)) (reads_same _ _ _ c.stat.ensures.only_read)
+
+pub returns-in_default-clause-misses : goal.returns-in_default-clause-misses
+returns-in_default-clause-misses g c =
+    c.make_above.ensures.misses ∙ ap (λ (w : FileTree). map.get w (c.args.project.now ++ c.args.target.now)) (reads_same _ _ _ c.stat.ensures.only_read)

@@ -15,7 +15,7 @@ use Rattle.install_world.proofs.Segments.{journal_segment}
 use Rattle.std.proofs.Common.{refl, ℕ, List}
 use Rattle.std.specs.Prelude.{Option}
 use Rattle.tree_dev.specs.Changes.{is_root}
-use Rattle.std.proofs.Common.{inl}
+use Rattle.std.proofs.Common.{inl, inr}
 use Rattle.tree_dev.specs.declared.limits.LimitKind.TheVariants.{FileBytes}
 use Rattle.install_world.specs.Recovery.{IsLong, IsReadable}
 use Rattle.install_world.proofs.RecoveryCauses.{other_entry}
@@ -29,6 +29,13 @@ use Rattle.tree_dev.specs.Trees.{FileTree}
 use Rattle.tree_dev.specs.Projects.{file_at, journal_path}
 use Rattle.install_world.proofs.FinishSteps.{reads_then}
 use Rattle.install_world.proofs.FinishStops.{stops_at_once}
+use Rattle.tree_dev.specs.Device.{only_read_refl}
+use Rattle.install_world.specs.AtOnce.{IsUnreadable}
+use Rattle.install_world.specs.JournalText.{IsBadJournal}
+use Rattle.install_world.specs.declared.recovery_fault.RecoverFault.TheVariants as faults
+use Rattle.install_world.proofs.AtOnce.{free_refused, journal_is_due, nothing_is_due_without, refused_after, refused_on, text_is_bad}
+use Rattle.install_world.specs.AtOnce.{IsNoFile}
+use Rattle.install_world.proofs.AtOnce.{other_stops, same_text}
 use Rattle.install_world.proofs.recovery.finish_claimed.Goals as goal
 
 pub child-requires : goal.child-requires
@@ -303,3 +310,80 @@ returns-clause-ends g c = λ t told surroundings old new files is_work each same
     (subst (λ bytes. map.get t c.in_ok-at.at ≡ Some (File bytes)) (sym c.as_slice.ensures) file.0)
     (subst (λ bytes. length bytes < 2 ^ 64) (sym c.as_slice.ensures) file.1)
     (images_read (IsInFlight c.args.project.now surroundings old new) _ _ _ c.read_text.ensures.only_read each) (images_read (λ (left : FileTree). IsFinishedProject c.args.project.now left files) _ _ _ c.read_text.ensures.only_read same))
+
+pub returns-in_err-at-clause-at_once : goal.returns-in_err-at-clause-at_once
+returns-in_err-at-clause-at_once g c =
+    let p = err_from_is_err_and c.from_residual.result c.from_residual.ensures.1 in
+    rw (p.1, p.2) (λ t told is_work folder fault due. record { answer = tt; only_read = only_read_refl _ })
+
+pub returns-in_err-read_text-clause-at_once : goal.returns-in_err-read_text-clause-at_once
+returns-in_err-read_text-clause-at_once g c =
+    let p = err_from_is_err_and c.from_residual-in_err-read_text.result c.from_residual-in_err-read_text.ensures.1 in
+    rw (p.1, p.2) (λ t told is_work folder fault due.
+    let is_at = at_is c.args.project.now c.args.work.now c.in_ok-at.at is_work c.in_ok-at.ensures in
+    let under = ap is_root is_at ∙ journal_under c.args.project.now in
+    elim (journal_is_due c.args.project.now t fault (subst (λ path. map.get t path ≡ Some Folder) is_work folder) due) [
+      | inl unreadable ↦ refused_on (Option (List ℕ)) Recovered fault _ _ c.in_err-read_text.field-0.0
+          (c.in_err-read_text.ensures.at_once t told under fault (subst (λ path. IsUnreadable path t fault) (sym is_at) unreadable))
+      | inr bad ↦ free_refused (Option (List ℕ)) Recovered fault _ _ c.in_err-read_text.field-0.0
+          (c.in_err-read_text.ensures.fits t told under (subst (λ path. IsReadable path t) (sym is_at) bad.3)) c.in_err-read_text.ensures.only_read
+    ])
+
+pub returns-in-None-clause-at_once : goal.returns-in-None-clause-at_once
+returns-in-None-clause-at_once g c = λ t told is_work folder fault due.
+    let is_at = at_is c.args.project.now c.args.work.now c.in_ok-at.at is_work c.in_ok-at.ensures in
+    let none : map.get t c.in_ok-at.at ≡ None = rw c.in-None.is at (c.in_ok-read_text.ensures.text t told) in
+    absurd (nothing_is_due_without c.args.project.now t fault (subst (λ path. map.get t path ≡ Some Folder) is_work folder)
+    (subst (λ path. map.get t path ≡ None) is_at none) due)
+
+pub returns-clause-at_once : goal.returns-clause-at_once
+returns-clause-at_once g c = λ t told is_work folder fault due.
+    let is_at = at_is c.args.project.now c.args.work.now c.in_ok-at.at is_work c.in_ok-at.ensures in
+    let file : (map.get t c.in_ok-at.at ≡ Some (File c.in-Some.text)) × (length c.in-Some.text < 2 ^ 64) = rw c.in-Some.is at (c.in_ok-read_text.ensures.text t told) in
+    let bad = text_is_bad c.args.project.now t fault (subst (λ path. map.get t path ≡ Some Folder) is_work folder) c.in-Some.text
+    (subst (λ path. map.get t path ≡ Some (File c.in-Some.text)) is_at file.0)
+    (subst (λ path. IsReadable path t) is_at (c.in_ok-read_text.ensures.readable t told (ap is_root is_at ∙ journal_under c.args.project.now))) due in
+    refused_after fault (faults.BadJournal bad.0) bad.1 _ _ _ _ c.in_ok-read_text.ensures.only_read
+    (c.finish_text.ensures.at_once bad.0 (subst (λ bytes. IsBadJournal bytes bad.0) (sym c.as_slice.ensures) bad.2))
+
+pub returns-in_err-read_text-clause-blocked : goal.returns-in_err-read_text-clause-blocked
+returns-in_err-read_text-clause-blocked g c = λ path is.
+    let p = err_from_is_err_and c.from_residual-in_err-read_text.result c.from_residual-in_err-read_text.ensures.1 in
+    let given = p.1 in
+    let from = p.2 in
+    let found = c.in_err-read_text.ensures.unread path cc in
+    λ t told is_work.
+    let is_at = at_is c.args.project.now c.args.work.now c.in_ok-at.at is_work c.in_ok-at.ensures in
+    other_stops c.args.project.now t path (found.0 ∙ is_at) (subst (λ at. IsNoFile at t) is_at (found.1 t told (ap is_root is_at ∙ journal_under c.args.project.now)))
+
+pub returns-in-None-clause-blocked : goal.returns-in-None-clause-blocked
+returns-in-None-clause-blocked g c = λ path is. absurd (c.take_install_away.ensures.not_other path is)
+
+pub returns-clause-blocked : goal.returns-clause-blocked
+returns-clause-blocked g c = λ path is t told is_work.
+    let is_at = at_is c.args.project.now c.args.work.now c.in_ok-at.at is_work c.in_ok-at.ensures in
+    let file : (map.get t c.in_ok-at.at ≡ Some (File c.in-Some.text)) × (length c.in-Some.text < 2 ^ 64) = rw c.in-Some.is at (c.in_ok-read_text.ensures.text t told) in
+    c.finish_text.ensures.blocked path is t (c.read_text.ensures.only_read.told ∙ told) is_at
+    (subst (λ bytes. map.get t c.in_ok-at.at ≡ Some (File bytes)) (sym c.as_slice.ensures) file.0)
+    (subst (λ bytes. length bytes < 2 ^ 64) (sym c.as_slice.ensures) file.1)
+
+pub returns-in-None-clause-free : goal.returns-in-None-clause-free
+returns-in-None-clause-free g c = on_ok_weaker c.take_install_away.result
+    (λ left t told is_work journal has number target part path blocked.
+    let is_at = at_is c.args.project.now c.args.work.now c.in_ok-at.at is_work c.in_ok-at.ensures in
+    let none : map.get t c.in_ok-at.at ≡ None = rw c.in-None.is at (c.in_ok-read_text.ensures.text t told) in
+    let absent = subst (λ path. map.get t path ≡ None) is_at none in
+    let there = has.there in cc)
+    c.take_install_away.ensures.left
+
+pub returns-clause-free : goal.returns-clause-free
+returns-clause-free g c = on_ok_weaker c.finish_text.result
+    (λ free t told is_work journal has number target part path blocked.
+    let is_at = at_is c.args.project.now c.args.work.now c.in_ok-at.at is_work c.in_ok-at.ensures in
+    let file : (map.get t c.in_ok-at.at ≡ Some (File c.in-Some.text)) × (length c.in-Some.text < 2 ^ 64) = rw c.in-Some.is at (c.in_ok-read_text.ensures.text t told) in
+    let same = same_text t (journal_path c.args.project.now) has.text c.in-Some.text has.there (subst (λ path. map.get t path ≡ Some (File c.in-Some.text)) is_at file.0) in
+    free t (c.read_text.ensures.only_read.told ∙ told) journal is_at
+    (subst (λ bytes. map.get t c.in_ok-at.at ≡ Some (File bytes)) (sym c.as_slice.ensures) file.0)
+    (subst (λ bytes. length bytes < 2 ^ 64) (sym c.as_slice.ensures) file.1)
+    (subst (λ bytes. Says bytes journal) (same ∙ sym c.as_slice.ensures) has.says) number target part path blocked)
+    c.finish_text.ensures.free

@@ -23,6 +23,12 @@ use Rattle.tree_dev.specs.Trees.{FileTree}
 use Rattle.tree_dev.specs.Projects.{file_at}
 use Rattle.install_world.proofs.FinishSteps.{reads_then}
 use Rattle.install_world.proofs.FinishStops.{stops_at_once}
+use Rattle.tree_dev.specs.Device.{only_read_refl}
+use Rattle.tree_dev.specs.Changes.{is_leaf}
+use Rattle.install_world.specs.declared.recovery_fault.RecoverFault.TheVariants as faults
+use Rattle.install_world.proofs.AtOnce.{nothing_is_due, refused_after, work_is_due}
+use Rattle.std.proofs.Common.{true}
+use Rattle.install_world.proofs.WayMoves.{entry_is}
 use Rattle.install_world.proofs.recovery.finish_install.Goals as goal
 
 pub child-requires : goal.child-requires
@@ -230,3 +236,57 @@ returns-in-Folder-clause-ends g c = λ t told surroundings old new files each sa
     through_on (λ (left : FileTree). IsFinishedProject c.args.project.now left files) _ _ _ (through_then_read (λ (left : FileTree). IsFinishedProject c.args.project.now left files) _ _ _ _ c.stat.ensures.only_read (through_from (λ (left : FileTree). IsFinishedProject c.args.project.now left files) _ same))
     (c.finish_claimed.ensures.ends t (c.stat.ensures.only_read.told ∙ told) surroundings old new files c.in_ok-work.ensures
     (images_read (IsInFlight c.args.project.now surroundings old new) _ _ _ c.stat.ensures.only_read each) (images_read (λ (left : FileTree). IsFinishedProject c.args.project.now left files) _ _ _ c.stat.ensures.only_read same))
+
+pub returns-in_err-work-clause-at_once : goal.returns-in_err-work-clause-at_once
+returns-in_err-work-clause-at_once g c =
+    let p = err_from_is_err_and c.from_residual.result c.from_residual.ensures.1 in
+    rw (p.1, p.2) (λ t told fault due. record { answer = tt; only_read = only_read_refl _ })
+
+pub returns-in_err-stat-clause-at_once : goal.returns-in_err-stat-clause-at_once
+returns-in_err-stat-clause-at_once g c =
+    let p = err_from_is_err_and c.from_residual-in_err-stat.result c.from_residual-in_err-stat.ensures.1 in
+    rw (p.1, p.2) (λ t told fault due. record { answer = tt; only_read = c.in_err-stat.ensures.only_read })
+
+pub returns-in-Absent-clause-at_once : goal.returns-in-Absent-clause-at_once
+returns-in-Absent-clause-at_once g c = λ t told fault due.
+    let none = subst (λ at. map.get t at ≡ None) c.in_ok-work.ensures (absent_is_none t c.in_ok-work.work c.in_ok-stat.field-0 (c.in_ok-stat.ensures.kind t told) c.in-Absent.is) in
+    absurd (nothing_is_due c.args.project.now t fault (g.met.T.Tree.tells_trees c.args.tree.now t told) none due)
+
+pub returns-in-Folder-clause-at_once : goal.returns-in-Folder-clause-at_once
+returns-in-Folder-clause-at_once g c = λ t told fault due.
+    let under = subst (λ at. is_root at ≡ false) (sym c.in_ok-work.ensures) (work_under c.args.project.now) in
+    refused_after fault fault refl _ _ _ _ c.in_ok-stat.ensures.only_read
+    (c.finish_claimed.ensures.at_once t (c.stat.ensures.only_read.told ∙ told) c.in_ok-work.ensures
+    (folder_is_some t c.in_ok-work.work c.in_ok-stat.field-0 (c.in_ok-stat.ensures.kind t told) c.in-Folder.is under) fault due)
+
+pub returns-in_default-clause-at_once : goal.returns-in_default-clause-at_once
+returns-in_default-clause-at_once g c = λ t told fault due. record {
+  answer =
+      let under = subst (λ at. is_root at ≡ false) (sym c.in_ok-work.ensures) (work_under c.args.project.now) in
+      let leaf = leaf_shown t c.in_ok-work.work c.in_ok-stat.field-0 (c.in_ok-stat.ensures.kind t told) c.in_default.not-Folder c.in_default.not-Absent in
+      ap faults.OtherEntry c.in_ok-work.ensures
+      ∙ work_is_due c.args.project.now t fault (g.met.T.Tree.tells_trees c.args.tree.now t told)
+      (subst (λ at. is_leaf (map.get t at) ≡ true) c.in_ok-work.ensures (sym (ap is_leaf (entry_is t c.in_ok-work.work under)) ∙ leaf)) due;
+  only_read = c.in_ok-stat.ensures.only_read;
+}
+
+pub returns-in-Folder-clause-blocked : goal.returns-in-Folder-clause-blocked
+returns-in-Folder-clause-blocked g c = λ path is t told. c.finish_claimed.ensures.blocked path is t (c.stat.ensures.only_read.told ∙ told) c.in_ok-work.ensures
+
+pub returns-in_default-clause-blocked : goal.returns-in_default-clause-blocked
+returns-in_default-clause-blocked g c = λ path is t told.
+    let under = subst (λ at. is_root at ≡ false) (sym c.in_ok-work.ensures) (work_under c.args.project.now) in
+    let leaf = leaf_shown t c.in_ok-work.work c.in_ok-stat.field-0 (c.in_ok-stat.ensures.kind t told) c.in_default.not-Folder c.in_default.not-Absent in
+    let at = c.in_ok-work.ensures in
+    inl (inl (cc, subst (λ at. is_leaf (map.get t at) ≡ true) c.in_ok-work.ensures (sym (ap is_leaf (entry_is t c.in_ok-work.work under)) ∙ leaf)))
+
+pub returns-in-Absent-clause-free : goal.returns-in-Absent-clause-free
+returns-in-Absent-clause-free g c = λ t told journal has number target part path blocked.
+    let none = subst (λ at. map.get t at ≡ None) c.in_ok-work.ensures (absent_is_none t c.in_ok-work.work c.in_ok-stat.field-0 (c.in_ok-stat.ensures.kind t told) c.in-Absent.is) in
+    let absent = (no_work_no_journal c.args.project.now t (g.met.T.Tree.tells_trees c.args.tree.now t told) none).absent in
+    let there = has.there in cc
+
+pub returns-in-Folder-clause-free : goal.returns-in-Folder-clause-free
+returns-in-Folder-clause-free g c = on_ok_weaker c.finish_claimed.result
+    (λ free t told. free t (c.stat.ensures.only_read.told ∙ told) c.in_ok-work.ensures)
+    c.finish_claimed.ensures.free

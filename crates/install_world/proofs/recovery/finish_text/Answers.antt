@@ -35,6 +35,10 @@ use Rattle.install_world.specs.InFlight.{IsFinishedProject}
 use Rattle.install_world.specs.Recovery.{IsNewProject}
 use Rattle.install_world.proofs.EndsAlike.{ending_is_finished, ends_finished, ends_fit}
 use Rattle.install_world.proofs.JournalEnds.{through_weaker}
+use Rattle.install_world.specs.JournalText.{IsJournalText}
+use Rattle.install_world.proofs.AtOnce.{read_text_only, refused_text}
+use Rattle.install_world.proofs.Places.{one_place}
+use Rattle.install_world.specs.InFlight.{IsPart}
 use Rattle.install_world.proofs.recovery.finish_text.Goals as goal
 
 pub returns-in_err-journal-clause-writes_none : goal.returns-in_err-journal-clause-writes_none
@@ -407,3 +411,59 @@ returns-clause-ends g c = λ t told surroundings old new files is_work is_at the
     through_on (λ (left : FileTree). IsFinishedProject c.args.project.now left files) first third fourth middle
     (through_weaker (IsNewProject way) (λ (left : FileTree). IsFinishedProject c.args.project.now left files) third fourth (λ left new. ending_is_finished way files fits left (inr new))
     (then_work_goes way c.args.work.now third fourth is_work c.remove_folder.ensures.removes done))
+
+pub returns-in_err-journal-clause-at_once : goal.returns-in_err-journal-clause-at_once
+returns-in_err-journal-clause-at_once g c =
+    let p = err_from_is_err_and c.from_residual.result c.from_residual.ensures.1 in
+    rw (p.1, p.2) (λ place bad. record {
+      answer = refused_text Recovered place c.in_err-journal.field-0.0
+          (λ at is. one_place IsJournalText c.args.text.now at place (c.in_err-journal.ensures.bad at (ap Err is)) bad);
+      only_read = read_text_only Recovered _ _ c.in_err-journal.field-0.0 (only_read_refl _);
+    })
+
+pub returns-in_err-barrier-clause-at_once : goal.returns-in_err-barrier-clause-at_once
+returns-in_err-barrier-clause-at_once g c = λ place bad. absurd (bad.no_text (c.in_ok-journal.journal, c.in_ok-journal.ensures.says))
+
+pub returns-in_err-finish_journal-clause-at_once : goal.returns-in_err-finish_journal-clause-at_once
+returns-in_err-finish_journal-clause-at_once g c = λ place bad. absurd (bad.no_text (c.in_ok-journal.journal, c.in_ok-journal.ensures.says))
+
+pub returns-in_err-remove_folder-clause-at_once : goal.returns-in_err-remove_folder-clause-at_once
+returns-in_err-remove_folder-clause-at_once g c = λ place bad. absurd (bad.no_text (c.in_ok-journal.journal, c.in_ok-journal.ensures.says))
+
+pub returns-clause-at_once : goal.returns-clause-at_once
+returns-clause-at_once g c = λ place bad. absurd (bad.no_text (c.in_ok-journal.journal, c.in_ok-journal.ensures.says))
+
+pub returns-in_err-journal-clause-blocked : goal.returns-in_err-journal-clause-blocked
+returns-in_err-journal-clause-blocked g c = λ path is.
+    let p = err_from_is_err_and c.from_residual.result c.from_residual.ensures.1 in
+    let given = p.1 in
+    let from = p.2 in
+    absurd (no_other_journal c.in_err-journal.field-0.0 path cc)
+
+pub returns-in_err-remove_folder-clause-blocked : goal.returns-in_err-remove_folder-clause-blocked
+returns-in_err-remove_folder-clause-blocked g c = λ path is.
+    let p = err_from_is_err_and c.from_residual-in_err-remove_folder.result c.from_residual-in_err-remove_folder.ensures.1 in
+    let given = p.1 in
+    let from = p.2 in
+    absurd (no_other_removal c.in_err-remove_folder.field-0.0 path cc)
+
+pub returns-in_err-finish_journal-clause-blocked : goal.returns-in_err-finish_journal-clause-blocked
+returns-in_err-finish_journal-clause-blocked g c = λ path is.
+    let p = err_from_is_err_and c.from_residual-in_err-finish_journal.result c.from_residual-in_err-finish_journal.ensures.1 in
+    let given = p.1 in
+    let from = p.2 in
+    let same : fault_of_part c.in_err-finish_journal.field-0.0 ≡ OtherEntry path = cc in
+    λ t told is_at there small.
+    let stands = stands_by c.args.project.now c.in_ok-journal.journal t c.args.text.now (subst (λ path. map.get t path ≡ Some (File c.args.text.now)) is_at there) small c.in_ok-journal.ensures.says in
+    inr (
+      c.in_ok-journal.journal,
+      stands.has,
+      c.in_err-finish_journal.ensures.blocked path (ap Err (other_part c.in_err-finish_journal.field-0.0 path same)) t (barrier_told _ _ c.barrier.ensures.moments ∙ told) stands,
+    )
+
+pub returns-clause-free : goal.returns-clause-free
+returns-clause-free g c = λ t told journal is_at there small says number target part path blocked.
+    let stands = stands_by c.args.project.now c.in_ok-journal.journal t c.args.text.now (subst (λ path. map.get t path ≡ Some (File c.args.text.now)) is_at there) small c.in_ok-journal.ensures.says in
+    let one = one_journal c.args.text.now c.in_ok-journal.journal journal small c.in_ok-journal.ensures.says says in
+    c.in_ok-finish_journal.ensures.free t (barrier_told _ _ c.barrier.ensures.moments ∙ told) stands number target
+    (subst (λ (j : Journal). IsPart j.targets number target) (sym one) part) path blocked

@@ -2,7 +2,7 @@ use Rattle.std.proofs.Common.{◌∙◌, ℕ, List, Option, sym, arith}
 use Rattle.tree_dev.specs.declared.entry.ReadAnswer.{ReadAnswer}
 use Rattle.std.proofs.lemmas.Result.{err_from_is_err_and}
 use Rattle.install_world.proofs.RecoveryRules.{absent_read, bytes_read, read_failing}
-use Rattle.std.proofs.Common.{◌≡◌, true, false, Some, refl, subst, inl, inr}
+use Rattle.std.proofs.Common.{◌≡◌, true, false, Some, ap, refl, subst, inl, inr}
 use Rattle.std.specs.Prelude.{◌⊎◌}
 use Rattle.std.specs.FinMap as map
 use Rattle.tree_dev.specs.Trees.{entry_at}
@@ -11,6 +11,9 @@ use Rattle.tree_dev.specs.declared.entry.Entry.TheVariants.{Folder}
 use Rattle.install_world.proofs.RecoveryCauses.{long_read, no_file_read, no_limit_tree, no_other_tree}
 use Rattle.install_world.proofs.RecoveryFits.{no_folder_read, not_too_long, refused_tree}
 use Rattle.install_world.proofs.FoldersThere.{tree_is_there}
+use Rattle.tree_dev.specs.declared.limits.LimitKind.TheVariants.{FileBytes}
+use Rattle.install_world.specs.declared.recovery_fault.RecoverFault.TheVariants as faults
+use Rattle.install_world.proofs.AtOnce.{free_tree, long_is_due, no_file_shown, other_is_due, readable_is_free}
 use Rattle.install_world.proofs.recovery.read_text.Goals as goal
 
 pub returns-in_err-text-clause-only_read : goal.returns-in_err-text-clause-only_read
@@ -100,3 +103,57 @@ returns-in-Bytes-clause-readable g c = λ t told under.
 pub returns-in-Absent-clause-readable : goal.returns-in-Absent-clause-readable
 returns-in-Absent-clause-readable g c = λ t told under.
     record { either = inl (absent_read t c.args.at.now 67108864 (sym c.in-Absent.is ∙ c.in_ok-text.ensures.answer t told)) }
+
+pub returns-in_err-text-clause-at_once : goal.returns-in_err-text-clause-at_once
+returns-in_err-text-clause-at_once g c =
+    let p = err_from_is_err_and c.from_residual.result c.from_residual.ensures.1 in
+    rw (p.1, p.2) (λ t told under fault unreadable. record {
+      answer = free_tree (Option (List ℕ)) fault c.in_err-text.field-0.0;
+      only_read = read_failing ReadAnswer (Option (List ℕ)) _ _ c.in_err-text.field-0.0 c.in_err-text.ensures.only_read;
+    })
+
+pub returns-in-Bytes-clause-at_once : goal.returns-in-Bytes-clause-at_once
+returns-in-Bytes-clause-at_once g c = λ t told under fault unreadable.
+    let found = bytes_read t c.args.at.now 67108864 c.in-Bytes.text (sym c.in-Bytes.is ∙ c.in_ok-text.ensures.answer t told) in
+    absurd (readable_is_free c.args.at.now t fault (record { either = inr (c.in-Bytes.text, found.0, found.1) }) unreadable)
+
+pub returns-in-Absent-clause-at_once : goal.returns-in-Absent-clause-at_once
+returns-in-Absent-clause-at_once g c = λ t told under fault unreadable.
+    absurd (readable_is_free c.args.at.now t fault
+    (record { either = inl (absent_read t c.args.at.now 67108864 (sym c.in-Absent.is ∙ c.in_ok-text.ensures.answer t told)) }) unreadable)
+
+pub returns-in_err-copy-in-NotFile-clause-at_once : goal.returns-in_err-copy-in-NotFile-clause-at_once
+returns-in_err-copy-in-NotFile-clause-at_once g c =
+    let p = err_from_is_err_and c.from_residual-in_err-copy-in-NotFile.result c.from_residual-in_err-copy-in-NotFile.ensures.1 in
+    rw (p.1, p.2) (λ t told under fault unreadable. record { answer = tt; only_read = c.in_ok-text.ensures.only_read })
+
+pub returns-in_ok-copy-in-NotFile-clause-at_once : goal.returns-in_ok-copy-in-NotFile-clause-at_once
+returns-in_ok-copy-in-NotFile-clause-at_once g c = λ t told under fault unreadable. record {
+  answer = ap faults.OtherEntry c.in_ok-copy-in-NotFile.ensures
+      ∙ other_is_due c.args.at.now t fault c.in_ok-text.field-0 under (c.in_ok-text.ensures.answer t told) c.in-NotFile.is unreadable;
+  only_read = c.in_ok-text.ensures.only_read;
+}
+
+pub returns-in_err-copy-in-TooLong-clause-at_once : goal.returns-in_err-copy-in-TooLong-clause-at_once
+returns-in_err-copy-in-TooLong-clause-at_once g c =
+    let p = err_from_is_err_and c.from_residual-in_err-copy-in-TooLong.result c.from_residual-in_err-copy-in-TooLong.ensures.1 in
+    rw (p.1, p.2) (λ t told under fault unreadable. record { answer = tt; only_read = c.in_ok-text.ensures.only_read })
+
+pub returns-in_ok-copy-in-TooLong-clause-at_once : goal.returns-in_ok-copy-in-TooLong-clause-at_once
+returns-in_ok-copy-in-TooLong-clause-at_once g c = λ t told under fault unreadable. record {
+  answer = ap (λ at. faults.Limit (FileBytes at)) c.in_ok-copy-in-TooLong.ensures
+      ∙ long_is_due c.args.at.now t fault c.in_ok-text.field-0 under (c.in_ok-text.ensures.answer t told) c.in-TooLong.is unreadable;
+  only_read = c.in_ok-text.ensures.only_read;
+}
+
+pub returns-in_err-text-clause-unread : goal.returns-in_err-text-clause-unread
+returns-in_err-text-clause-unread g c = λ path is.
+    let p = err_from_is_err_and c.from_residual.result c.from_residual.ensures.1 in
+    let given = p.1 in
+    let from = p.2 in
+    absurd (no_other_tree c.in_err-text.field-0.0 path cc)
+
+pub returns-in_ok-copy-in-NotFile-clause-unread : goal.returns-in_ok-copy-in-NotFile-clause-unread
+returns-in_ok-copy-in-NotFile-clause-unread g c = λ path is.
+    let copied = c.in_ok-copy-in-NotFile.ensures in
+    (cc, λ t told under. no_file_shown c.args.at.now t (faults.OtherEntry c.args.at.now) c.in_ok-text.field-0 under (c.in_ok-text.ensures.answer t told) c.in-NotFile.is)
