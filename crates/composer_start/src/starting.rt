@@ -1,6 +1,7 @@
 //! From the system to a run.
 
-ghost use Rattle.composer_top.specs.Outcome.{EndsWithAnswer};
+ghost use Rattle.install_choice.specs.Warnings.{MayWarn};
+ghost use Rattle.composer_top.specs.Outcome.{EndsBehind, EndsWithAnswer};
 
 use composer_top::{Refusal, refuse, run};
 use std::io::ErrorKind;
@@ -11,9 +12,10 @@ use tree_std::FolderTree;
 /// Runs the command that the words behind the program's name say, over the project in the current folder, and gives the
 /// status. `out` and `errs` take what the program prints on its two streams.
 pub fn start<S: Sink, E: Sink>(rt: &HostRuntime, out: &mut S, errs: &mut E) -> u8
-    // It ends with the lines and the status of some answer.
-    ensures ended { EndsWithAnswer
-        (record { out_before = S.meaning out.old; out_now = S.meaning out.new; errs_before = E.meaning errs.old; errs_now = E.meaning errs.new }) result }
+    // It ends with the lines and the status of some answer, and puts nothing else but that a lock is out of date.
+    ensures ended { EndsBehind
+        (record { out_before = S.meaning out.old; out_now = S.meaning out.new; errs_before = E.meaning errs.old; errs_now = E.meaning errs.new })
+        MayWarn (λ outputs. EndsWithAnswer outputs result) }
 {
     match words(rt) {
         Ok(words) => {

@@ -111,4 +111,5 @@ module _ (IsMade : FileTree → ℕ → Result Work Refusal → Type 0) (project
       refused = λ refused. when_refused (EachImage before (IsSteadily project t) → EachImage now (IsInstalled project t (file_at t))) answer (refused_is refused) did.refused;
       released = λ passes other. did.released passes (free_lines answer (free_is other));
       unclaimed = λ refusal refuses other. did.unclaimed refusal refuses (free_lines answer (free_is other));
+      writes = did.writes;
     }

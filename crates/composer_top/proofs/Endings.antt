@@ -274,6 +274,13 @@ module _ (outputs : Outputs) (status : ℕ) where
   not_free_answer (Err refusal) (no_memory e) other = absurd (false≢true (sym other ∙ ap is_free_status e))
   not_free_answer (Err refusal) (no_output e rose answered) other = absurd (false≢true answered)
 
+  -- an answer that is free ends the run by the device or for want of memory
+  pub free_answer : (answer : Result Report Refusal) → Source outputs answer status → IsTrue (is_free_result answer) → is_free_status status ≡ true
+  free_answer (Ok report) from free = absurd (false≢true free)
+  free_answer (Err refusal) (own e) free = ap is_free_status e ∙ free
+  free_answer (Err refusal) (no_memory e) free = ap is_free_status e
+  free_answer (Err refusal) (no_output e rose answered) free = absurd (false≢true answered)
+
   refused : (refusal : Refusal) (answer : Result Report Refusal) → KeepsToWords (Some refusal) answer → Told outputs answer status → Told outputs (Err refusal) status
   refused refusal answer (inl same) (inl x) = inl (subst (λ a. Concluded outputs a status) same x)
   refused refusal answer (inr memory) (inl x) = inr (subst (λ a. Concluded outputs a status) memory x)

@@ -6,6 +6,7 @@ use Rattle.tree_dev.specs.Device.{Meaning, OnlyRead, Rose, only_read_refl}
 use Rattle.tree_dev.specs.Disk.{reading}
 use Rattle.tree_dev.proofs.Stretches.{through_from}
 use Rattle.install_world.specs.InFlight.{IsFinishedProject, IsInFlight}
+use Rattle.install_commands.specs.declared.work.Work.{Work}
 use Rattle.install_commands.specs.Recovering.{Recovers}
 use Rattle.run_answers.specs.Faults.{is_device_fault, is_free, is_of_device}
 use Rattle.run_answers.specs.declared.refusal.Refusal.{Refusal}
@@ -15,16 +16,17 @@ use Rattle.composer_words.specs.declared.chosen.Task.{Task}
 use Rattle.composer_words.specs.declared.chosen.Task.TheVariants as tasks
 use Rattle.composer_words.specs.declared.chosen.Ways.{Ways}
 use Rattle.install_commands.proofs.WriteCounts.{none_written}
-use Rattle.composer_top.specs.Chosen.{ChooseDump, ChooseRecovery, chooses_reading, chosen_in, is_reading}
+use Rattle.composer_top.specs.Chosen.{ChooseDump, ChooseInstall, ChooseRecovery, ChooseUpdate, chooses_reading, chosen_in, is_reading}
 use Rattle.composer_top.specs.Outcome.{Performs, PerformsChosen}
 use Rattle.composer_top.specs.Outcome.Dump.{Dumped, IsDumpWork}
+use Rattle.composer_top.specs.Outcome.Install.{IsInstallWork, IsUpdateWork, Renews}
 use Rattle.composer_top.specs.Outcome.Recover.{Recovery}
 use Rattle.composer_top.proofs.Changing.{not_changed}
 use Rattle.composer_top.specs.declared.report.Report.{Report}
 
 -- ---- no command was begun
 
-not_memory : (refusal : Refusal) → is_free refusal ≡ false → refusal ≢ refusals.OutOfMemory
+pub not_memory : (refusal : Refusal) → is_free refusal ≡ false → refusal ≢ refusals.OutOfMemory
 not_memory refusal other same = false≢true (sym other ∙ ap is_free same)
 
 module _ (choice : Result Chosen Refusal) (refusal : Refusal) (given : refusal ≢ refusals.OutOfMemory → choice ≡ Err refusal) where
@@ -56,11 +58,17 @@ module _ (choice : Result Chosen Refusal) (refusal : Refusal) (given : refusal �
       few_writes = λ t told. none_written m.writes m.writes 8 refl;
     }
 
+    not_renewed : (IsMade : FileTree → ℕ → Result Work Refusal → Type 0) (project : List (List ℕ)) → is_free refusal ≡ true → Renews IsMade project m m (Err refusal)
+    not_renewed IsMade project free = record {
+      changes = not_changed IsMade project m refusal free (λ failed. false≢true (sym no_device ∙ failed));
+      ends_well = tt;
+    }
+
     task_not_begun : (project : List (List ℕ)) (task : Task) → is_free refusal ≡ true → Performs project task m m (Err refusal)
     task_not_begun project (tasks.Lookup word) free = stays
     task_not_begun project tasks.Files free = stays
-    task_not_begun project (tasks.Install ways) free = stays
-    task_not_begun project (tasks.Update ways) free = stays
+    task_not_begun project (tasks.Install ways) free = not_renewed (IsInstallWork project ways) project free
+    task_not_begun project (tasks.Update ways) free = not_renewed (IsUpdateWork project ways) project free
     task_not_begun project (tasks.DumpAutoload ways) free = not_dumped project ways free
     task_not_begun project tasks.Check free = stays
     task_not_begun project tasks.Recover free = not_recovered project free
@@ -86,8 +94,8 @@ module _ (before now : Meaning) (answer : Result Report Refusal) where
   task_read : (project : List (List ℕ)) (task : Task) → is_reading task ≡ true → Performs project task before now answer → Reads
   task_read project (tasks.Lookup word) reads did = did
   task_read project tasks.Files reads did = did
-  task_read project (tasks.Install ways) reads did = did
-  task_read project (tasks.Update ways) reads did = did
+  task_read project (tasks.Install ways) reads did = absurd (false≢true reads)
+  task_read project (tasks.Update ways) reads did = absurd (false≢true reads)
   task_read project (tasks.DumpAutoload ways) reads did = absurd (false≢true reads)
   task_read project tasks.Check reads did = did
   task_read project tasks.Recover reads did = absurd (false≢true reads)
@@ -100,8 +108,8 @@ module _ (before now : Meaning) (answer : Result Report Refusal) where
   task_rose : (project : List (List ℕ)) (task : Task) → Performs project task before now answer → is_device_fault answer ≡ true → Rose before.faults now.faults
   task_rose project (tasks.Lookup word) did failed = did.cause failed
   task_rose project tasks.Files did failed = did.cause failed
-  task_rose project (tasks.Install ways) did failed = did.cause failed
-  task_rose project (tasks.Update ways) did failed = did.cause failed
+  task_rose project (tasks.Install ways) did failed = did.changes.device failed
+  task_rose project (tasks.Update ways) did failed = did.changes.device failed
   task_rose project (tasks.DumpAutoload ways) did failed = did.changes.device failed
   task_rose project tasks.Check did failed = did.cause failed
   task_rose project tasks.Recover did failed = did.device failed
@@ -116,6 +124,15 @@ module _ (before now : Meaning) (answer : Result Report Refusal) where
   pub recovery : (words : List (List ℕ)) (project : List (List ℕ)) → ChooseRecovery words project → PerformsChosen (chosen_in words) before now answer
       → Recovery project before now answer
   recovery words project chooses did = subst (λ (c : Result Chosen Refusal). PerformsChosen c before now answer) chooses did
+
+  -- what an install and an update did
+  pub installed : (words : List (List ℕ)) (project : List (List ℕ)) (ways : Ways) → ChooseInstall words project ways → PerformsChosen (chosen_in words) before now answer
+      → Renews (IsInstallWork project ways) project before now answer
+  installed words project ways chooses did = subst (λ (c : Result Chosen Refusal). PerformsChosen c before now answer) chooses did
+
+  pub updated : (words : List (List ℕ)) (project : List (List ℕ)) (ways : Ways) → ChooseUpdate words project ways → PerformsChosen (chosen_in words) before now answer
+      → Renews (IsUpdateWork project ways) project before now answer
+  updated words project ways chooses did = subst (λ (c : Result Chosen Refusal). PerformsChosen c before now answer) chooses did
 
   -- what a dump did
   pub dump : (words : List (List ℕ)) (project : List (List ℕ)) (ways : Ways) → ChooseDump words project ways → PerformsChosen (chosen_in words) before now answer

@@ -37,8 +37,8 @@ module _ (refusal : Refusal) where
   unfolding lookup_outcome
   task_first t now project (tasks.Lookup word) e = one_of _ (refused_first (named word) (λ name. looked_up t project name) _ e)
   task_first t now project tasks.Files e = none e
-  task_first t now project (tasks.Install ways) e = one_of _ (same refusals.Usage e)
-  task_first t now project (tasks.Update ways) e = one_of _ (same refusals.Usage e)
+  task_first t now project (tasks.Install ways) e = none e
+  task_first t now project (tasks.Update ways) e = none e
   task_first t now project (tasks.DumpAutoload ways) e = none e
   task_first t now project tasks.Check e = none e
   task_first t now project tasks.Recover e = none e

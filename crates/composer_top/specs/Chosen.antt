@@ -21,12 +21,12 @@ or_refused (Err fault) = Err (refusal_of_words fault)
 abbrev pub chosen_in : List (List ℕ) → Result Chosen Refusal
 chosen_in words = or_refused (command_of words)
 
--- A command that changes nothing: all but `dump-autoload` and `recover`. One that is not built yet is refused.
+-- A command that changes nothing: all but `install`, `update`, `dump-autoload` and `recover`. One that is not built yet is refused.
 abbrev pub is_reading : Task → Bool
 is_reading (tasks.Lookup word) = true
 is_reading tasks.Files = true
-is_reading (tasks.Install ways) = true
-is_reading (tasks.Update ways) = true
+is_reading (tasks.Install ways) = false
+is_reading (tasks.Update ways) = false
 is_reading (tasks.DumpAutoload ways) = false
 is_reading tasks.Check = true
 is_reading tasks.Recover = false
@@ -47,3 +47,11 @@ ChooseRecovery words project = chosen_in words ≡ Ok (record { project = projec
 -- The words choose to write the tables of this project anew, in these ways.
 abbrev pub ChooseDump : List (List ℕ) → List (List ℕ) → Ways → Type 0
 ChooseDump words project ways = chosen_in words ≡ Ok (record { project = project; task = tasks.DumpAutoload ways })
+
+-- The words choose to install in this project, in these ways.
+abbrev pub ChooseInstall : List (List ℕ) → List (List ℕ) → Ways → Type 0
+ChooseInstall words project ways = chosen_in words ≡ Ok (record { project = project; task = tasks.Install ways })
+
+-- The words choose to update this project, in these ways.
+abbrev pub ChooseUpdate : List (List ℕ) → List (List ℕ) → Ways → Type 0
+ChooseUpdate words project ways = chosen_in words ≡ Ok (record { project = project; task = tasks.Update ways })

@@ -6,7 +6,8 @@ pub mod Check
 pub mod Recover
 pub mod Change
 pub mod Dump
-use Rattle.std.specs.Prelude.{◌≡◌, ◌≢◌, ◌⊎◌, ℕ, nat_eq, List, [], ◌∷◌, ◌++◌, Bool, false, ◌||◌, IsTrue, Option, Some, None, Result, Ok, Err, MatchResult, IfErr, IfSome}
+pub mod Install
+use Rattle.std.specs.Prelude.{◌≡◌, ◌≢◌, ◌⊎◌, ◌≤◌, ℕ, nat_eq, List, [], ◌∷◌, ◌++◌, Bool, false, ◌||◌, IsTrue, Option, Some, None, Result, Ok, Err, MatchResult, IfErr, IfSome}
 use Rattle.std.specs.FinMap as map
 use Rattle.path_name.specs.Given.{◌>>=◌}
 use Rattle.path_name.specs.Paths.{path_text}
@@ -25,16 +26,19 @@ use Rattle.run_answers.specs.Steps.{TellsOne}
 use Rattle.run_answers.specs.declared.refusal.Refusal.{Refusal}
 use Rattle.run_answers.specs.declared.refusal.Refusal.TheVariants as refusals
 use Rattle.install_world.specs.InFlight.{IsInFlight}
+use Rattle.stage_job.specs.Written.{after_more}
 use Rattle.install_commands.specs.Claiming.{claim_in, with_claim}
 use Rattle.install_commands.specs.Commanded.{files_made, outcome_of_work}
-use Rattle.install_commands.specs.Working.{IsInstalled}
+use Rattle.install_commands.specs.Working.{IsInstalled, writes_of}
 use Rattle.install_commands.specs.declared.work.Work.{Work}
 use Rattle.composer_top.specs.Chosen.{chosen_in}
 use Rattle.composer_top.specs.Outcome.Lookup.{named, lookup_outcome}
 use Rattle.composer_top.specs.Outcome.Files.{files_outcome}
 use Rattle.composer_top.specs.Outcome.Check.{check_outcome}
 use Rattle.composer_top.specs.Outcome.Recover.{IsRecovery, Recovery}
+use Rattle.composer_top.specs.Outcome.Change.{IsChange}
 use Rattle.composer_top.specs.Outcome.Dump.{Dumped, IsDump}
+use Rattle.composer_top.specs.Outcome.Install.{IsInstallWork, IsUpdateWork, Renews}
 use Rattle.composer_top.specs.declared.report.Report.{Report}
 
 -- ---- the outcome
@@ -47,12 +51,12 @@ abbrev pub plain : List ℕ → Report
 plain lines = record { lines = lines; end = None }
 
 -- What a task may be answered over a tree t, where it leaves what is told afterwards: the one outcome of a command that only
--- reads, or an outcome of a recovery or of a dump. A command that is not built yet is Usage.
+-- reads, or an outcome of a command that changes something. A command that is not built yet is Usage.
 abbrev pub IsTaskOutcome : FileTree → Meaning → List (List ℕ) → Task → Result Report Refusal → Type 0
 IsTaskOutcome t now project (tasks.Lookup word) answer = (lookup_outcome t project word >>= λ path. Ok (plain (path_line path))) ≡ answer
 IsTaskOutcome t now project tasks.Files answer = (files_outcome t project >>= λ lines. Ok (plain lines)) ≡ answer
-IsTaskOutcome t now project (tasks.Install ways) answer = Err refusals.Usage ≡ answer
-IsTaskOutcome t now project (tasks.Update ways) answer = Err refusals.Usage ≡ answer
+IsTaskOutcome t now project (tasks.Install ways) answer = IsChange (IsInstallWork project ways) t project answer
+IsTaskOutcome t now project (tasks.Update ways) answer = IsChange (IsUpdateWork project ways) t project answer
 IsTaskOutcome t now project (tasks.DumpAutoload ways) answer = IsDump t project ways answer
 IsTaskOutcome t now project tasks.Check answer = check_outcome t project ≡ answer
 IsTaskOutcome t now project tasks.Recover answer = IsRecovery t now project answer
@@ -72,8 +76,8 @@ IsOutcome t now words answer = IsChosenOutcome t now (chosen_in words) answer
 abbrev pub Performs : List (List ℕ) → Task → Meaning → Meaning → Result Report Refusal → Type 0
 Performs project (tasks.Lookup word) before now answer = OnlyRead before now (is_device_fault answer)
 Performs project tasks.Files before now answer = OnlyRead before now (is_device_fault answer)
-Performs project (tasks.Install ways) before now answer = OnlyRead before now (is_device_fault answer)
-Performs project (tasks.Update ways) before now answer = OnlyRead before now (is_device_fault answer)
+Performs project (tasks.Install ways) before now answer = Renews (IsInstallWork project ways) project before now answer
+Performs project (tasks.Update ways) before now answer = Renews (IsUpdateWork project ways) project before now answer
 Performs project (tasks.DumpAutoload ways) before now answer = Dumped project ways before now answer
 Performs project tasks.Check before now answer = OnlyRead before now (is_device_fault answer)
 Performs project tasks.Recover before now answer = Recovery project before now answer
@@ -92,8 +96,8 @@ refusal_in (Err refusal) = Some refusal
 abbrev pub task_refusal : Task → Option Refusal
 task_refusal (tasks.Lookup word) = refusal_in (named word)
 task_refusal tasks.Files = None
-task_refusal (tasks.Install ways) = Some refusals.Usage
-task_refusal (tasks.Update ways) = Some refusals.Usage
+task_refusal (tasks.Install ways) = None
+task_refusal (tasks.Update ways) = None
 task_refusal (tasks.DumpAutoload ways) = None
 task_refusal tasks.Check = None
 task_refusal tasks.Recover = None
@@ -141,6 +145,14 @@ pub record Outputs : Type 0 where
   pub out_now : Taken
   pub errs_before : Taken
   pub errs_now : Taken
+
+-- the same, where `errs` took something before the answer was told
+abbrev pub behind : Outputs → Taken → Outputs
+behind outputs warned = record { out_before = outputs.out_before; out_now = outputs.out_now; errs_before = warned; errs_now = outputs.errs_now }
+
+-- `errs` took a warning of this kind, and behind it the run ended so.
+abbrev pub EndsBehind : Outputs → (Taken → Taken → Type 0) → (Outputs → Type 0) → Type 0
+EndsBehind outputs IsWarned EndsSo = (warned : Taken) × IsWarned outputs.errs_before warned × EndsSo (behind outputs warned)
 
 -- The run replied: status and lines are those of the reply, whatever counts of faults rose.
 pub record Replied (outputs : Outputs) (reply : Reply) (status : ℕ) : Type 0 where
@@ -208,3 +220,5 @@ pub record RunChanges (IsMade : FileTree → ℕ → Result Work Refusal → Typ
   -- the claim is gone where there was one, and nothing was changed where there was none
   pub released : claim_in t project ≡ Ok tt → is_free_status status ≡ false → OfTold now (λ u. map.get u (work_path project) ≡ None)
   pub unclaimed : (refusal : Refusal) → claim_in t project ≡ Err refusal → is_free_status status ≡ false → now.told ≡ before.told
+  -- at most one file is written for each that the parts of the work put, and one for the journal
+  pub writes : now.writes ≤ after_more before.writes (writes_of (with_claim project t) made)

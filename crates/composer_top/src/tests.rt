@@ -1,4 +1,5 @@
 mod dumps;
+mod installs;
 mod journals;
 mod lock_refusals;
 mod locks;

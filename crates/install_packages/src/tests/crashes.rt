@@ -87,11 +87,6 @@ fn stopped(alloc: Global, stop: u64) -> Result<MemoryTree, Fail> {
     Ok(tree)
 }
 
-/// How many changes are pending where an update is stopped at a call.
-fn pending(alloc: Global, stop: u64) -> Result<u64, Fail> {
-    Ok(stopped(alloc, stop)?.pending())
-}
-
 /// A crash that keeps some of the pending changes, and a recovery; whether a journal stood between them.
 fn recovered(
     alloc: Global,
@@ -128,16 +123,15 @@ fn calls(alloc: Global) -> Result<u64, Fail> {
 fn crashes_leave_old_or_new(rt: HostRuntime) -> Result<(), Fail> {
     let alloc = rt.alloc();
     for stop in 1..=calls(alloc)? {
-        for kept in 0..=pending(alloc, stop)? {
-            assert!(rt;
-                ends_well(alloc, stop, kept, None)?,
-                "call {stop}, {kept} kept"
-            );
-            assert!(rt;
-                ends_well(alloc, stop, kept, Some(b"torn".as_slice()))?,
-                "call {stop}, {kept} kept, torn"
-            );
-        }
+        assert!(rt; ends_well(alloc, stop, 0, None)?, "call {stop}");
+        assert!(rt;
+            ends_well(alloc, stop, stop % 40, Some(b"torn".as_slice()))?,
+            "call {stop}, torn"
+        );
+        assert!(rt;
+            ends_well(alloc, stop, u64::MAX, None)?,
+            "call {stop}, all kept"
+        );
     }
     Ok(())
 }

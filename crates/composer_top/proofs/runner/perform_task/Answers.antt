@@ -14,3 +14,13 @@ pub returns-in-DumpAutoload-clause-told : goal.returns-in-DumpAutoload-clause-to
 returns-in-DumpAutoload-clause-told g c = λ t told.
     subst (λ (task : Task). TellsOne {X = Report} {Y = Report} (λ report. report) (IsTaskOutcome t (g.T.Tree.meaning c.dumped.new.tree) c.args.project.now task) c.dumped.result)
     (sym c.in-DumpAutoload.is) (c.dumped.ensures.told t told)
+
+pub returns-in-Install-clause-told : goal.returns-in-Install-clause-told
+returns-in-Install-clause-told g c = λ t told.
+    subst (λ (task : Task). TellsOne {X = Report} {Y = Report} (λ report. report) (IsTaskOutcome t (g.T.Tree.meaning c.installed.new.tree) c.args.project.now task) c.installed.result)
+    (sym c.in-Install.is) (c.installed.ensures.told t told)
+
+pub returns-in-Update-clause-told : goal.returns-in-Update-clause-told
+returns-in-Update-clause-told g c = λ t told.
+    subst (λ (task : Task). TellsOne {X = Report} {Y = Report} (λ report. report) (IsTaskOutcome t (g.T.Tree.meaning c.updated.new.tree) c.args.project.now task) c.updated.result)
+    (sym c.in-Update.is) (c.updated.ensures.told t told)
