@@ -1,7 +1,1 @@
-<?php
-
-namespace App;
-
-class Home
-{
-}
+<?php namespace App; class Home {}
