@@ -12,11 +12,11 @@ use tree_dev::{Entry, MemoryTree, ReadAnswer, Tree};
 #[derive(Clone, Copy)]
 struct File(&'static [u8], &'static [u8]);
 
-/// A project in `p`, what is asked for, what is answered (lines, or the line of a refusal), and a file that is then there; with
+/// A project, whose files stand in `p`, what is asked for, what is answered (lines, or the line of a refusal), and a file that is then there; with
 /// no bytes it isn't.
 #[derive(Clone, Copy)]
 struct Dump {
-    files: &'static [File],
+    project: Project,
     ways: Ways,
     answer: &'static [u8],
     after: File,
@@ -151,67 +151,67 @@ static CLAIMED: [File; 2] = [File(b"p/composer.json", b"{}"), File(b"p/.install"
 /// What is written.
 static WRITTEN: [Dump; 11] = [
     Dump {
-        files: &APP,
+        project: Project::App,
         ways: PLAIN,
         answer: FIRST,
         after: File(PSR4, ROWS_OF_APP),
     },
     Dump {
-        files: &APP,
+        project: Project::App,
         ways: PLAIN,
         answer: FIRST,
         after: File(STATE, FIRST_STATE),
     },
     Dump {
-        files: &APP,
+        project: Project::App,
         ways: PLAIN,
         answer: FIRST,
         after: File(INSTALLED, NONE_INSTALLED),
     },
     Dump {
-        files: &APP,
+        project: Project::App,
         ways: OPTIMISED,
         answer: FIRST_CLASS,
         after: File(CLASS_MAP, MAP_OF_APP),
     },
     Dump {
-        files: &APP,
+        project: Project::App,
         ways: AUTHORITATIVE,
         answer: FIRST_CLASS,
         after: File(STATE, CLOSED_STATE),
     },
     Dump {
-        files: &CLOSED,
+        project: Project::Closed,
         ways: OPTIMISED,
         answer: FIRST,
         after: File(STATE, CLOSED_STATE),
     },
     Dump {
-        files: &OPEN,
+        project: Project::Open,
         ways: PLAIN,
         answer: FIRST,
         after: File(STATE, OPTIMISED_STATE),
     },
     Dump {
-        files: &AGAIN,
+        project: Project::Again,
         ways: PLAIN,
         answer: b"classes 0\ngeneration 42\n",
         after: File(STATE, NEXT_STATE),
     },
     Dump {
-        files: &LOG,
+        project: Project::Log,
         ways: PLAIN,
         answer: FIRST,
         after: File(PSR4, ROWS_OF_LOG),
     },
     Dump {
-        files: &TESTS,
+        project: Project::Tests,
         ways: PLAIN,
         answer: FIRST,
         after: File(PSR4, TEST_ROWS),
     },
     Dump {
-        files: &TESTS,
+        project: Project::Tests,
         ways: NO_DEV,
         answer: FIRST,
         after: File(PSR4, NO_ROWS),
@@ -221,48 +221,84 @@ static WRITTEN: [Dump; 11] = [
 /// What is refused.
 static REFUSED: [Dump; 7] = [
     Dump {
-        files: &EMPTY,
+        project: Project::Empty,
         ways: PLAIN,
         answer: b"error: no composer.json\n",
         after: File(b"p/.install", b""),
     },
     Dump {
-        files: &NO_JSON,
+        project: Project::NoJson,
         ways: PLAIN,
         answer: b"error: composer.json: syntax at 7\n",
         after: File(INSTALLED, b"x"),
     },
     Dump {
-        files: &BAD_INSTALLED,
+        project: Project::BadInstalled,
         ways: PLAIN,
         answer: b"error: installed.json: syntax at 0\n",
         after: File(STATE, b""),
     },
     Dump {
-        files: &FILE_OF_VENDOR,
+        project: Project::FileOfVendor,
         ways: PLAIN,
         answer: b"error: wrong kind p/vendor\n",
         after: File(b"p/vendor", b"x"),
     },
     Dump {
-        files: &MISSING,
+        project: Project::Missing,
         ways: PLAIN,
         answer: b"error: missing p/nowhere\n",
         after: File(b"p/.install", b""),
     },
     Dump {
-        files: &LAST,
+        project: Project::Last,
         ways: PLAIN,
         answer: b"error: limit Generation\n",
         after: File(STATE, LAST_STATE),
     },
     Dump {
-        files: &CLAIMED,
+        project: Project::Claimed,
         ways: PLAIN,
         answer: b"error: unfinished install\n",
         after: File(b"p/.install", b"x"),
     },
 ];
+
+/// The projects of the tests.
+#[derive(Clone, Copy)]
+enum Project {
+    App,
+    Closed,
+    Open,
+    Again,
+    Last,
+    Log,
+    Tests,
+    Empty,
+    NoJson,
+    BadInstalled,
+    FileOfVendor,
+    Missing,
+    Claimed,
+}
+
+fn files_of(project: Project) -> &'static [File] {
+    match project {
+        Project::App => &APP,
+        Project::Closed => &CLOSED,
+        Project::Open => &OPEN,
+        Project::Again => &AGAIN,
+        Project::Last => &LAST,
+        Project::Log => &LOG,
+        Project::Tests => &TESTS,
+        Project::Empty => &EMPTY,
+        Project::NoJson => &NO_JSON,
+        Project::BadInstalled => &BAD_INSTALLED,
+        Project::FileOfVendor => &FILE_OF_VENDOR,
+        Project::Missing => &MISSING,
+        Project::Claimed => &CLAIMED,
+    }
+}
 
 fn project_of(alloc: Global, files: &[File]) -> Option<MemoryTree> {
     let mut tree = MemoryTree::new(alloc).ok()?;
@@ -275,9 +311,9 @@ fn project_of(alloc: Global, files: &[File]) -> Option<MemoryTree> {
 }
 
 /// The lines, or the line of a refusal.
-fn line_of(alloc: Global, answer: Result<Text, Refusal>) -> Option<Text> {
+fn line_of(alloc: Global, answer: Result<Text, Refusal>) -> Option<Vec<u8>> {
     match answer {
-        Ok(lines) => Some(lines),
+        Ok(lines) => Vec::from_slice(alloc, lines.as_slice()).ok(),
         Err(refusal) => error_line(alloc, &refusal).ok(),
     }
 }
@@ -293,7 +329,7 @@ fn is_there(alloc: Global, tree: &mut MemoryTree, file: File) -> Option<bool> {
 
 /// Whether a dump answers and leaves what it is to.
 fn dumps(alloc: Global, dump: &Dump) -> Option<bool> {
-    let mut tree = project_of(alloc, dump.files)?;
+    let mut tree = project_of(alloc, files_of(dump.project))?;
     let project = Path::read(alloc, b"p").ok()?;
     let answer = dump_autoload(alloc, &project, &dump.ways, &mut tree);
     let line = line_of(alloc, answer)?;
