@@ -1,5 +1,8 @@
 //! The packages of a lock, looked for over a tree in memory.
 
+ghost use Rattle.std.specs.Prelude.{IfOk};
+ghost use Rattle.lock_file.specs.FormedLocks.{IsLock};
+
 use crate::{members, put_packages};
 use lock_file::{Lock, from_doc};
 use path_name::Path;
@@ -12,7 +15,9 @@ use tree_dev::{Entry, MemoryTree};
 const LOCK: &[u8] =
     br#"{"content-hash":"x","packages":[{"name":"b/b","version":"v1.0","dist":{"type":"path","url":"../store/b"}},{"name":"a/a","version":"1.0.0","dist":{"type":"path","url":"../store/a"}}],"packages-dev":[{"name":"a/b","version":"dev-main","dist":{"type":"path","url":"../store/c"}}]}"#;
 
-fn lock(alloc: Global) -> Result<Lock, Fail> {
+fn lock(alloc: Global) -> Result<Lock, Fail>
+    ensures { IfOk result IsLock }
+{
     let doc = json_ordered::read(alloc, LOCK)?;
     Ok(from_doc(alloc, &doc)?)
 }
