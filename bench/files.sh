@@ -1,18 +1,9 @@
 #!/bin/sh
 # Times FolderTree's list, read and write over 10,000 files beside find, cat and a copy with fsync per file.
-# Usage: bench/files.sh [FOLDERS], from the top of the repository, with the kit's `rt` and python3 on the PATH.
-# FOLDERS is the number of folders of 100 files each (100). Files are made below $TMPDIR, so let it name the disk.
-set -eu
-top=$(cd "$(dirname "$0")/.." && pwd)
-work=$(mktemp -d)
-trap 'rm -rf "$work"' EXIT
-mkdir -p "$work/repo/crates/files_bench/src" "$work/here"
-for crate in path_name tree_dev tree_std; do
-    mkdir "$work/repo/crates/$crate"
-    for part in src specs proofs out; do [ ! -d "$top/crates/$crate/$part" ] || cp -r "$top/crates/$crate/$part" "$work/repo/crates/$crate/"; done
-done
-{ grep -E '^(path_name|tree_dev|tree_std):' "$top/crates.txt"; echo 'files_bench: path_name tree_dev tree_std'; } > "$work/repo/crates.txt"
-cat > "$work/repo/crates/files_bench/src/main.rt" <<'RT'
+# Usage: bench/files.sh [build], with the kit's `rt` and python3 on the PATH. FOLDERS is the number of folders of 100 files each
+# (100). Files are made below $TMPDIR, or below BENCH_FOLDER, so let it name the disk.
+. "$(dirname "$0")/head.sh"
+files=$(program files_times 'path_name tree_dev tree_std' path_name tree_dev tree_std <<'RT'
 // Lists and reads the files two folders below `tree`, writes them below `copy`, and prints the microseconds
 // of each.
 #![tactic(auto)]
@@ -128,11 +119,12 @@ fn main(rt: HostRuntime) -> io::Result<()> {
     run(&rt, rt.alloc(), &mut FolderTree::new(&rt))
 }
 RT
-(cd "$work/repo" && git init -q . && cd crates/files_bench && mkdir -p tree && rt run < /dev/null > "$work/build.log" 2>&1) || true
-program=$work/repo/crates/files_bench/out/files_bench
-[ -x "$program" ] || { tail "$work/build.log"; exit 1; }
+)
+if [ "${1:-}" = build ]; then exit 0; fi
+rm -rf "$work/here"
+mkdir "$work/here"
 cd "$work/here"
-python3 - "${1:-100}" <<'PY'
+python3 - "${FOLDERS:-100}" <<'PY'
 import os, sys
 line = b'    /** A line of a class, as classes have them. */ public function name(string $name): string { return $name; }\n'
 for folder in range(int(sys.argv[1])):
@@ -142,7 +134,7 @@ for folder in range(int(sys.argv[1])):
             to.write(b'<?php\nclass File%d {\n' % file + line * (file * 130 // 100) + b'}\n')
 os.sync()
 PY
-python3 - "$program" <<'PY'
+python3 - "$files" <<'PY'
 import os, shutil, subprocess, sys, time
 def timed(call):
     start = time.time(); call(); return (time.time() - start) * 1e6
