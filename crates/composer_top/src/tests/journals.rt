@@ -237,7 +237,8 @@ static BAD_JOURNALS: [Recovery; 7] = [
     },
 ];
 
-/// Entries of another kind than recovery needs, in their order, each with a later one there too.
+/// Entries of another kind than recovery needs, in their order, with a later one there too. `.install/old` is needed only by a part
+/// that takes something there.
 static OTHER_KINDS: [Recovery; 6] = [
     Recovery {
         row: Row {
@@ -289,7 +290,7 @@ static OTHER_KINDS: [Recovery; 6] = [
                 (JOURNAL, Content::Bytes(SECOND)),
                 STAGED,
                 (b".install/old", Content::Other),
-                (b"vendor", Content::Bytes(b"old")),
+                (b"vendor/a/f", Content::Bytes(b"old")),
             ],
             words: "recover",
             status: 15,
@@ -299,7 +300,7 @@ static OTHER_KINDS: [Recovery; 6] = [
         after: &[
             (JOURNAL, SECOND),
             (b".install/new/0/f", b"new"),
-            (b"vendor", b"old"),
+            (b"vendor/a/f", b"old"),
         ],
     },
     Recovery {
@@ -307,6 +308,7 @@ static OTHER_KINDS: [Recovery; 6] = [
             project: &[
                 (JOURNAL, Content::Bytes(SECOND)),
                 STAGED,
+                (b".install/old", Content::Other),
                 (b"vendor", Content::Bytes(b"old")),
             ],
             words: "recover",
