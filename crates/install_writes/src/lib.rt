@@ -4,3 +4,6 @@
 mod laws;
 
 pub use laws::installs_write_few_files;
+
+#[cfg(test)]
+mod tests;
