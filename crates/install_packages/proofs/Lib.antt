@@ -7,3 +7,4 @@ pub mod InstallWarnings
 pub mod StandingFiles
 pub mod FewWrites
 pub mod ShownPackages
+pub mod OpenedClasses

@@ -1,7 +1,7 @@
 -- All that an install of packages commits, put together from its steps.
-use Rattle.std.specs.Prelude.{◌≡◌, ℕ, List, [], ◌∷◌, ◌++◌, Some, None, Ok, IfSome}
+use Rattle.std.specs.Prelude.{◌≡◌, ℕ, true, false, codes, List, [], ◌∷◌, ◌++◌, Some, None, Ok, IfSome}
 use Rattle.std.specs.List.{AllByRecursion}
-use Rattle.tree_dev.specs.Projects.{bytes_of}
+use Rattle.tree_dev.specs.Projects.{bytes_of, is_within, vendor_path}
 use Rattle.tree_dev.specs.Trees.{FileTree, behind}
 use Rattle.package_moves.specs.Moves.{IsJobFor, moves_checked}
 use Rattle.package_moves.specs.Wanted.{without_vendor}
@@ -9,7 +9,7 @@ use Rattle.psr_routes.specs.declared.types.Placed.{Placed}
 use Rattle.stage_job.specs.Jobs.{AreParts, Files, job_result}
 use Rattle.stage_job.specs.declared.job.Part.{Part}
 use Rattle.stage_job.specs.Mirrored.{mirrored}
-use Rattle.class_walk.specs.Walks.{AreScansOf, Walked}
+use Rattle.class_walk.specs.Walks.{AreScansOf, Walked, ends_in, last_of}
 use Rattle.class_walk.specs.declared.job.Scanned.{Scanned}
 use Rattle.table_scan.specs.declared.types.Tables.{Tables}
 use Rattle.autoload_build.specs.Answers.{walks_of}
@@ -80,3 +80,8 @@ tables_in {t} {at} {chosen} {setting} {left} {after} {work} made = tables_of (pr
 -- each package is seen in a tree in its place as the walks for classes see it where it is copied from
 abbrev pub ArePackagesShown : FileTree → FileTree → List Placed → Type 0
 ArePackagesShown read shown members = AllByRecursion (λ one. (below : List (List ℕ)) → file_in shown (one.shown ++ below) ≡ file_of_package read one below) members
+
+-- outside of `vendor` the files whose names end in `.php` are the same in two trees
+abbrev pub AreOwnFilesKept : List (List ℕ) → FileTree → FileTree → Type 0
+AreOwnFilesKept at read shown =
+    (path : List (List ℕ)) → is_within (vendor_path at) path ≡ false → ends_in (codes ".php") (last_of path) ≡ true → file_in shown path ≡ file_in read path

@@ -1,23 +1,28 @@
 //! Laws of what the commands install, each as the contract of a function that does nothing.
 
-ghost use Rattle.std.specs.Prelude.{◌≡◌, ◌≤◌, ◌+◌, ◌++◌, ℕ, List, Bool, true, false, Some, None, Ok};
+ghost use Rattle.std.specs.Prelude.{◌≡◌, ◌≤◌, ◌+◌, ◌++◌, ◌⊎◌, ℕ, List, Bool, true, false, Some, None, is_some, Ok};
 ghost use Rattle.std.specs.FinMap as map;
 ghost use Rattle.tree_dev.specs.Projects.{file_at, is_within, lock_path, vendor_path, work_path};
 ghost use Rattle.tree_dev.specs.Trees.{FileTree, IsTree};
 ghost use Rattle.composer_words.specs.declared.chosen.Ways.{Ways};
 ghost use Rattle.stage_job.specs.Jobs.{Files, job_result};
 ghost use Rattle.project_files.specs.States.{generation_in};
+ghost use Rattle.install_choice.specs.Planning.{IsChoice};
 ghost use Rattle.install_choice.specs.Choosing.{IsChosenToInstall, IsChosenToUpdate};
 ghost use Rattle.install_choice.specs.declared.chosen.Chosen.{Chosen};
 ghost use Rattle.install_commands.specs.Claiming.{with_claim};
 ghost use Rattle.install_commands.specs.declared.work.Work.{Work as Works};
 ghost use Rattle.table_files.specs.declared.building.Setting.{Setting};
-ghost use Rattle.install_packages.specs.Installations.{ArePackagesAt, ArePackagesShown, AreWrittenAt, Installation, IsOffTargets, installed_files, project_in, tables_in};
-ghost use Rattle.class_lookup.specs.Lookup.{lookup_in};
-ghost use Rattle.class_paths.specs.Search.{search_file};
+ghost use Rattle.install_packages.specs.Installations.{AreOwnFilesKept, ArePackagesAt, ArePackagesShown, AreWrittenAt, Installation, IsOffTargets, installed_files, project_in, tables_in};
+ghost use Rattle.class_lookup.specs.Lookup.{has_file, lookup_in};
+ghost use Rattle.class_paths.specs.ClassNames.{IsClassName};
+ghost use Rattle.class_paths.specs.Search.{listed_file, search_file};
+ghost use Rattle.class_walk.specs.declared.job.Scanned.{Scanned};
 ghost use Rattle.table_scan.specs.TableFaults as grammar;
-ghost use Rattle.table_scan.specs.declared.types.Mode.TheVariants.{Plain};
+ghost use Rattle.table_scan.specs.declared.types.Mode.TheVariants.{Authoritative, Optimised, Plain};
+ghost use Rattle.autoload_build.specs.Answers.{AreFound};
 ghost use Rattle.autoload_build.specs.BuiltTables.{classes_of};
+ghost use Rattle.autoload_build.specs.ClassAgreement.{IsInScanReach, IsUnambiguous};
 ghost use Rattle.autoload_build.specs.Jobs.{rows};
 ghost use Rattle.install_world.specs.InFlight.{HasFiles};
 ghost use Rattle.lock_file.specs.LockText.{lock_text};
@@ -32,7 +37,9 @@ ghost use Rattle.table_files.specs.Written.{parts_of};
 ghost use Rattle.install_packages.specs.InstallParts.{copy_parts};
 ghost use Rattle.install_packages.specs.Installing.{IsInstall, IsUpdate, setting_of};
 
-use autoload_build::plain_tables;
+use autoload_build::{
+    authoritative_tables, optimised_tables, plain_tables, walks_of_rows_come_last,
+};
 use install_choice::updates_take_first_choices;
 
 /// What a command commits is an installation of the packages that it chose, and claiming changes no file.
@@ -98,3 +105,39 @@ pub fn installed_packages_are_shown()
     ensures { (t u : FileTree) (at : List (List ℕ)) (chosen : Chosen) (setting : Setting) (left after : ℕ) (work : Works) (made : Installation t at chosen setting left after work)
         → IsTree t → IsTree u → HasFiles at u (job_result at t work.job.parts (file_at t)) → ArePackagesShown t u made.members }
 {}
+
+/// Optimised tables of an installed project open the same file as plain ones for each unambiguous class of the tree in which it
+/// stands; and whatever files there are, for each class that is listed and for each that the walks of the folders of rows don't
+/// find. What these find stands behind what the walks of listed paths find.
+pub fn installed_optimised_tables()
+    ensures parts { (t : FileTree) (at : List (List ℕ)) (chosen : Chosen) (setting : Setting) (left after : ℕ) (work : Works) (made : Installation t at chosen setting left after work)
+        → setting.mode ≡ Optimised → (listed : List Scanned) × (walked : List Scanned) × (made.found ≡ listed ++ walked) × AreFound t (project_in made) left listed walked }
+    ensures unambiguous { (t u : FileTree) (at : List (List ℕ)) (chosen : Chosen) (setting : Setting) (left after : ℕ) (work : Works) (made : Installation t at chosen setting left after work)
+        (listed walked : List Scanned) (name : List ℕ) → setting.mode ≡ Optimised → made.found ≡ listed ++ walked → AreFound t (project_in made) left listed walked
+        → IsTree t → IsTree u → HasFiles at u (job_result at t work.job.parts (file_at t)) → AreOwnFilesKept at t u → IsUnambiguous u (rows (project_in made)) (classes_of listed) name
+        → lookup_in (tables_in made) (has_file u) name ≡ search_file (has_file u) (rows (project_in made)) (classes_of listed) name }
+    ensures others { (t : FileTree) (at : List (List ℕ)) (chosen : Chosen) (setting : Setting) (left after : ℕ) (work : Works) (made : Installation t at chosen setting left after work)
+        (listed walked : List Scanned) (is_file : List (List ℕ) → Bool) (name : List ℕ) → setting.mode ≡ Optimised → made.found ≡ listed ++ walked
+        → (is_some (listed_file (classes_of listed) name) ≡ true) ⊎ (listed_file (classes_of walked) name ≡ None)
+        → lookup_in (tables_in made) is_file name ≡ search_file is_file (rows (project_in made)) (classes_of listed) name }
+{
+    walks_of_rows_come_last();
+    optimised_tables();
+}
+
+/// Authoritative tables of an installed project open the file that the class map has for a class, and for no other class a file.
+/// They open the same file as plain ones for each unambiguous class in reach of the scan of the tree in which the project stands.
+pub fn installed_authoritative_tables()
+    ensures parts { (t : FileTree) (at : List (List ℕ)) (chosen : Chosen) (setting : Setting) (left after : ℕ) (work : Works) (made : Installation t at chosen setting left after work)
+        → setting.mode ≡ Authoritative → (listed : List Scanned) × (walked : List Scanned) × (made.found ≡ listed ++ walked) × AreFound t (project_in made) left listed walked }
+    ensures mapped { (t : FileTree) (at : List (List ℕ)) (chosen : Chosen) (setting : Setting) (left after : ℕ) (work : Works) (made : Installation t at chosen setting left after work)
+        (is_file : List (List ℕ) → Bool) (name : List ℕ) → setting.mode ≡ Authoritative → lookup_in (tables_in made) is_file name ≡ listed_file (classes_of made.found) name }
+    ensures in_reach { (t u : FileTree) (at : List (List ℕ)) (chosen : Chosen) (setting : Setting) (left after : ℕ) (work : Works) (made : Installation t at chosen setting left after work)
+        (listed walked : List Scanned) (name : List ℕ) → setting.mode ≡ Authoritative → made.found ≡ listed ++ walked → AreFound t (project_in made) left listed walked
+        → IsTree t → IsTree u → HasFiles at u (job_result at t work.job.parts (file_at t)) → AreOwnFilesKept at t u → IsChoice chosen → IsClassName name
+        → IsUnambiguous u (rows (project_in made)) (classes_of listed) name → IsInScanReach u (project_in made) name
+        → lookup_in (tables_in made) (has_file u) name ≡ search_file (has_file u) (rows (project_in made)) (classes_of listed) name }
+{
+    walks_of_rows_come_last();
+    authoritative_tables();
+}

@@ -11,7 +11,8 @@ mod wanted;
 pub use installing::{install, update};
 pub use laws::{
     commands_install_what_they_choose, installations_make_the_new_project,
-    installations_write_few_files, installed_packages_are_shown, installed_tables, new_locks_stand,
+    installations_write_few_files, installed_authoritative_tables, installed_optimised_tables,
+    installed_packages_are_shown, installed_tables, new_locks_stand,
 };
 
 #[cfg(test)]
