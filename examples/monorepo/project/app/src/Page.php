@@ -1,0 +1,7 @@
+<?php
+
+namespace Site;
+
+class Page
+{
+}

@@ -1,0 +1,7 @@
+<?php
+
+namespace Acme\Checks;
+
+class Check
+{
+}

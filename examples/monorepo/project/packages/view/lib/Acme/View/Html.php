@@ -1,0 +1,7 @@
+<?php
+
+namespace Acme\View;
+
+class Html
+{
+}

@@ -1,0 +1,3 @@
+<?php
+
+define('ACME_LOG', 'ready');
