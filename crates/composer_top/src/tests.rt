@@ -307,7 +307,7 @@ fn word_refusals(alloc: Global) -> Result<Vec<Row>, Fail> {
     rows.push(refused(&ALL, "look App\\Home", 2, USAGE))?;
     rows.push(refused(&ALL, "lookup App\\Home App\\Home", 2, USAGE))?;
     rows.push(refused(&ALL, "-d .. files", 2, USAGE))?;
-    rows.push(refused(&PENDING, "install", 2, USAGE))?;
+    rows.push(refused(&PENDING, "install now", 2, USAGE))?;
     rows.push(refused(&PENDING, "demo 1", 2, USAGE))?;
     rows.push(refused(&PENDING, "recover now", 2, USAGE))?;
     rows.push(refused(&ALL, "lookup App\\1", 2, BAD_NAME))?;
@@ -322,6 +322,9 @@ fn table_refusals(alloc: Global) -> Result<Vec<Row>, Fail> {
     let mut rows = Vec::new(alloc);
     rows.push(refused(&PENDING, HOME, 7, INSTALL_PENDING))?;
     rows.push(refused(&PENDING_FOLDER, "files", 7, INSTALL_PENDING))?;
+    rows.push(refused(&PENDING, "install", 7, INSTALL_PENDING))?;
+    rows.push(refused(&PENDING, "update", 7, INSTALL_PENDING))?;
+    rows.push(refused(&PENDING_FOLDER, "dump-autoload", 7, INSTALL_PENDING))?;
     rows.push(refused(&NONE, HOME, 14, NO_TABLES))?;
     rows.push(refused(&NONE, "files", 14, NO_TABLES))?;
     rows.push(refused(&SUBFOLDER, HOME, 14, NO_TABLES))?;
