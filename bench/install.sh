@@ -1,12 +1,13 @@
 #!/bin/sh
 # Times a fresh `composer install` of 100 packages with 100 files each, which are copied from a path repository, one where nothing
 # has changed, and an `update` to a next version of each: the whole process, beside `cp -r` of the packages, a copy by python3
-# with a sync of each file, `diff -rq` of the packages and their copies, and Composer's own commands, as they are and with
-# a sync of each file behind them; then of twice as many packages, to see how the times grow.
-# Usage: bench/install.sh, from anywhere, with the kit's `rt`, python3 and, if they are there, php and Composer on the PATH. The
-# program is built first, by bin/composer, unless PROGRAM names a built one. PACKAGES is the first number of packages (100), FILES
-# the number of files of each (100). Files are made below $TMPDIR, so let it name the disk. Where MEASURE is set, it is a command
-# that runs the measurements, as `chrt -f 10` does.
+# with a sync of each file, `diff -rq` of the packages and their copies, and Composer's own commands, as they are, with a sync
+# of each file behind them, and with a sync of each file when it is closed; then of twice as many packages, to see how the
+# times grow.
+# Usage: bench/install.sh, from anywhere, with the kit's `rt`, python3 and, if they are there, php, Composer and cc on the PATH.
+# The program is built first, by bin/composer, unless PROGRAM names a built one. PACKAGES is the first number of packages (100),
+# FILES the number of files of each (100). Files are made below $TMPDIR, so let it name the disk. Where MEASURE is set, it is a
+# command that runs the measurements, as `chrt -f 10` does.
 set -eu
 top=$(cd "$(dirname "$0")/.." && pwd)
 work=$(mktemp -d)
@@ -88,7 +89,11 @@ if shutil.which('php') and shutil.which('composer'):
     words = ['--no-plugins', '--no-scripts', '--no-interaction', '--quiet']
     for name, behind in (('Composer', nothing), ('Composer and syncs', all_synced)):
         measure(name, lambda: run('composer', 'install', *words), lambda: run('composer', 'update', *words), behind)
+    if os.path.isfile('../synced_files.so'):
+        preload = 'LD_PRELOAD=' + os.path.abspath('../synced_files.so')
+        measure('Composer syncing', lambda: run('env', preload, 'composer', 'install', *words), lambda: run('env', preload, 'composer', 'update', *words), nothing)
 PY
+if command -v cc > /dev/null; then cc -O2 -shared -fPIC -o synced_files.so "$top/bench/synced_files.c" -ldl; fi
 export COMPOSER_ALLOW_SUPERUSER=1 COMPOSER_MEMORY_LIMIT=-1
 packages=${PACKAGES:-100}
 files=${FILES:-100}
