@@ -228,6 +228,8 @@ const PSR4_IS_OTHER: &[u8] = b"error: wrong kind vendor/composer/autoload_psr4.p
 
 const INSTALL_PENDING: &[u8] = b"error: install pending\n";
 
+const INSTALL_UNFINISHED: &[u8] = b"error: unfinished install\n";
+
 const TREE_FAILED: &[u8] = b"error: device fault\n";
 
 const OUT_FAILED: &[u8] = b"error: output fault\n";
@@ -322,9 +324,9 @@ fn table_refusals(alloc: Global) -> Result<Vec<Row>, Fail> {
     let mut rows = Vec::new(alloc);
     rows.push(refused(&PENDING, HOME, 7, INSTALL_PENDING))?;
     rows.push(refused(&PENDING_FOLDER, "files", 7, INSTALL_PENDING))?;
-    rows.push(refused(&PENDING, "install", 7, INSTALL_PENDING))?;
-    rows.push(refused(&PENDING, "update", 7, INSTALL_PENDING))?;
-    rows.push(refused(&PENDING_FOLDER, "dump-autoload", 7, INSTALL_PENDING))?;
+    rows.push(refused(&PENDING, "install", 7, INSTALL_UNFINISHED))?;
+    rows.push(refused(&PENDING, "update", 7, INSTALL_UNFINISHED))?;
+    rows.push(refused(&PENDING_FOLDER, "dump-autoload", 7, INSTALL_UNFINISHED))?;
     rows.push(refused(&NONE, HOME, 14, NO_TABLES))?;
     rows.push(refused(&NONE, "files", 14, NO_TABLES))?;
     rows.push(refused(&SUBFOLDER, HOME, 14, NO_TABLES))?;
