@@ -1,18 +1,20 @@
 -- What tables that were built open.
-use Rattle.std.proofs.Common.{◌≡◌, ℕ, Bool, List, Result, Ok, Err, refl, sym, ap, subst, ◌∙◌}
+use Rattle.std.proofs.Common.{◌≡◌, ℕ, Bool, List, ◌++◌, Result, Ok, Err, refl, sym, ap, subst, ◌∙◌}
 use Rattle.path_name.specs.Given.{◌>>=◌}
-use Rattle.tree_dev.specs.Trees.{FileTree}
+use Rattle.tree_dev.specs.Trees.{FileTree, IsTree}
+use Rattle.class_paths.specs.ClassNames.{IsClassName}
 use Rattle.class_paths.specs.Search.{search_file}
-use Rattle.class_lookup.specs.Lookup.{lookup_in}
+use Rattle.class_lookup.specs.Lookup.{has_file, lookup_in}
 use Rattle.class_walk.specs.Walks.{AreScansOf, Walked}
 use Rattle.class_walk.specs.declared.fault.WalkFault.{WalkFault}
 use Rattle.class_walk.specs.declared.job.Scanned.{Scanned}
 use Rattle.table_scan.specs.declared.types.Mode.{Mode}
-use Rattle.table_scan.specs.declared.types.Mode.TheVariants.{Plain}
+use Rattle.table_scan.specs.declared.types.Mode.TheVariants.{Authoritative, Optimised, Plain}
 use Rattle.table_scan.specs.declared.types.Tables.{Tables}
-use Rattle.autoload_build.specs.Answers.{walks_of}
+use Rattle.autoload_build.specs.Answers.{AreFound, walks_of}
+use Rattle.autoload_build.specs.ClassAgreement.{IsInScanReach, IsShown, IsUnambiguous}
 use Rattle.autoload_build.specs.BuiltTables.{classes_of, tables_of}
-use Rattle.autoload_build.specs.Jobs.{Project, rows}
+use Rattle.autoload_build.specs.Jobs.{HasReadManifests, Project, rows}
 use Rattle.run_answers.specs.declared.refusal.Refusal.{Refusal}
 use Rattle.table_files.specs.Modes.{next_generation}
 use Rattle.table_files.specs.NewTables.{AreNewTables, AreTablesOf, built_tables}
@@ -57,3 +59,54 @@ plain_opens law project t left after standing new is_file name are plain =
       b.3,
       ap (λ (tables : Tables). lookup_in tables is_file name) (b.4 ∙ ap (λ (mode : Mode). tables_of p mode new.generation b.1) plain) ∙ law p new.generation b.1 is_file name,
     )
+
+-- ---- tables with the classes of rows
+
+module _ (parts_law : (t : FileTree) (p : Project) (left : ℕ) (all : Walked) (found : List Scanned) → walks_of t p Optimised left ≡ Ok all → AreScansOf all.found found
+    → (listed : List Scanned) × (walked : List Scanned) × (found ≡ listed ++ walked) × AreFound t p left listed walked)
+    (project : List (List ℕ)) (t shown : FileTree) (left after : ℕ) (standing : Standing) (new : NewTables) (name : List ℕ)
+    (are : AreNewTables t (project_of project standing) standing.setting left (Ok (new, after))) where
+  abbrev Opens : List Scanned → Type 0
+  Opens listed = lookup_in new.tables (has_file shown) name ≡ search_file (has_file shown) (rows (project_of project standing)) (classes_of listed) name
+
+  -- what an optimised one opens, by the law of these
+  pub optimised_opens : ((p : Project) (generation left : ℕ) (read shown : FileTree) (listed walked : List Scanned) (name : List ℕ) → AreFound read p left listed walked → IsShown p read shown
+      → IsUnambiguous shown (rows p) (classes_of listed) name
+      → lookup_in (tables_of p Optimised generation (listed ++ walked)) (has_file shown) name ≡ search_file (has_file shown) (rows p) (classes_of listed) name)
+      → standing.setting.mode ≡ Optimised
+      → (listed : List Scanned) × (walked : List Scanned) × AreFound t (project_of project standing) left listed walked
+      × (IsShown (project_of project standing) t shown → IsUnambiguous shown (rows (project_of project standing)) (classes_of listed) name → Opens listed)
+  optimised_opens law mode =
+      let p = project_of project standing in
+      let b = built_of t p standing.setting left after new are in
+      let parts = parts_law t p left b.0 b.1 (subst (λ (m : Mode). walks_of t p m left ≡ Ok b.0) mode b.2) b.3 in (
+        parts.0,
+        parts.1,
+        parts.3,
+        λ stands unambiguous.
+            ap (λ (tables : Tables). lookup_in tables (has_file shown) name)
+            (b.4 ∙ ap (λ (m : Mode). tables_of p m new.generation b.1) mode ∙ ap (λ (found : List Scanned). tables_of p Optimised new.generation found) parts.2)
+            ∙ law p new.generation left t shown parts.0 parts.1 name parts.3 stands unambiguous,
+      )
+
+  -- and an authoritative one
+  pub authoritative_opens : ((t : FileTree) (p : Project) (left : ℕ) → walks_of t p Authoritative left ≡ walks_of t p Optimised left)
+      → ((p : Project) (generation left : ℕ) (read shown : FileTree) (listed walked : List Scanned) (name : List ℕ) → IsTree read → HasReadManifests p → AreFound read p left listed walked
+      → IsShown p read shown → IsClassName name → IsUnambiguous shown (rows p) (classes_of listed) name → IsInScanReach shown p name
+      → lookup_in (tables_of p Authoritative generation (listed ++ walked)) (has_file shown) name ≡ search_file (has_file shown) (rows p) (classes_of listed) name)
+      → standing.setting.mode ≡ Authoritative → IsTree t → HasReadManifests (project_of project standing)
+      → (listed : List Scanned) × (walked : List Scanned) × AreFound t (project_of project standing) left listed walked
+      × (IsShown (project_of project standing) t shown → IsClassName name → IsUnambiguous shown (rows (project_of project standing)) (classes_of listed) name
+      → IsInScanReach shown (project_of project standing) name → Opens listed)
+  authoritative_opens same law mode tree formed =
+      let p = project_of project standing in
+      let b = built_of t p standing.setting left after new are in
+      let parts = parts_law t p left b.0 b.1 (sym (same t p left) ∙ subst (λ (m : Mode). walks_of t p m left ≡ Ok b.0) mode b.2) b.3 in (
+        parts.0,
+        parts.1,
+        parts.3,
+        λ stands named unambiguous reach.
+            ap (λ (tables : Tables). lookup_in tables (has_file shown) name)
+            (b.4 ∙ ap (λ (m : Mode). tables_of p m new.generation b.1) mode ∙ ap (λ (found : List Scanned). tables_of p Authoritative new.generation found) parts.2)
+            ∙ law p new.generation left t shown parts.0 parts.1 name tree formed parts.3 stands named unambiguous reach,
+      )
