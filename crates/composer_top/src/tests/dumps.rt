@@ -1,6 +1,9 @@
 //! Runs of `dump-autoload`.
 
-use super::{Content, PSR4, Put, Row, STATE, disturbed, gives, refused, tree_of, words_of};
+use super::installs::SHOP;
+use super::{
+    Content, NOT_FOUND, PSR4, Put, Row, STATE, disturbed, gives, refused, tree_of, words_of,
+};
 use crate::run;
 use path_name::Path;
 use std::alloc::Global;
@@ -139,20 +142,12 @@ fn status_of(alloc: Global, row: &Row, tree: &mut MemoryTree) -> Result<u8, Fail
     Ok(run(alloc, words.as_slice(), tree, &mut out, &mut errs))
 }
 
-/// Stops a dump at a call, so that it and all later ones fail, and crashes so that this many of the pending changes are kept.
-fn crashed(
-    rt: &impl Abort,
-    alloc: Global,
-    row: &Row,
-    call: u64,
-    kept: u64,
-) -> Result<MemoryTree, Fail> {
+/// Stops a dump at a call, so that it and all later ones fail. One at a call behind the last ends well.
+fn stopped(rt: &impl Abort, alloc: Global, row: &Row, call: u64) -> Result<MemoryTree, Fail> {
     let mut tree = tree_of(rt, alloc, row)?;
     tree.stop_at(call);
-    assert_eq!(rt; status_of(alloc, row, &mut tree)?, 8);
-    assert_eq!(rt; tree.calls(), call);
-    let applied = tree.pending().min(kept);
-    tree.crash(alloc, applied, Some(b"?".as_slice()))?;
+    let status = status_of(alloc, row, &mut tree)?;
+    assert_eq!(rt; status, if tree.calls() < call { 0 } else { 8 });
     Ok(tree)
 }
 
@@ -161,33 +156,139 @@ fn ends_after_crash(
     rt: &impl Abort,
     alloc: Global,
     row: &Row,
-    call: u64,
-    kept: u64,
+    tree: MemoryTree,
 ) -> Result<(), Fail> {
-    let mut tree = crashed(rt, alloc, row, call, kept)?;
+    let mut tree = tree;
     let recovery = refused(&PROJECT, "recover", 0, b"");
     assert_eq!(rt; status_of(alloc, &recovery, &mut tree)?, 0);
     let old = all_stand(alloc, &mut tree, &OLD)?;
     let new = all_stand(alloc, &mut tree, &NEW)?;
-    assert!(rt; old || new, "{call} {kept}");
+    assert!(rt; old || new, "{}", row.words);
     Ok(())
 }
 
-fn ends_after_crashes(rt: &impl Abort, alloc: Global, row: &Row, call: u64) -> Result<(), Fail> {
-    for kept in 0..4u64 {
-        ends_after_crash(rt, alloc, row, call, kept)?;
-    }
-    ends_after_crash(rt, alloc, row, call, 99)
+/// Crashes a dump that was stopped at a call so that so many of the pending changes are kept: with the bytes as they were
+/// written, and with other ones.
+fn ends_after_crashes(
+    rt: &impl Abort,
+    alloc: Global,
+    row: &Row,
+    call: u64,
+    kept: u64,
+) -> Result<(), Fail> {
+    let mut whole = stopped(rt, alloc, row, call)?;
+    let applied = whole.pending().min(kept);
+    whole.crash(alloc, applied, None)?;
+    ends_after_crash(rt, alloc, row, whole)?;
+    let mut torn = stopped(rt, alloc, row, call)?;
+    let applied = torn.pending().min(kept);
+    torn.crash(alloc, applied, Some(b"?".as_slice()))?;
+    ends_after_crash(rt, alloc, row, torn)
 }
 
-/// A dump that is stopped at any call and crashes leaves the old tables or the new ones, once it is recovered.
+/// A dump that is stopped at any call, or behind the last, and leaves any of the trees that a crash may leave then, leaves the
+/// old tables or the new ones, once it is recovered. (A call that changes nothing leaves what the call before left.)
 #[test]
 fn stopped_dumps(rt: HostRuntime) -> Result<(), Fail> {
     let row = dumped(WORDS, b"classes 0\ngeneration 42\n");
     let mut tree = tree_of(&rt, rt.alloc(), &row)?;
     gives(&rt, rt.alloc(), &row, &mut tree)?;
-    for call in 1..=tree.calls() {
-        ends_after_crashes(&rt, rt.alloc(), &row, call)?;
+    let mut before = u64::MAX;
+    for call in 1..=tree.calls() + 1 {
+        let pending = stopped(&rt, rt.alloc(), &row, call)?.pending();
+        if pending == before {
+            continue;
+        }
+        for kept in 0..=pending {
+            ends_after_crashes(&rt, rt.alloc(), &row, call, kept)?;
+        }
+        before = pending;
     }
     Ok(())
+}
+
+/// Words, the status, and what is put on `out` and on `errs`.
+#[derive(Clone, Copy)]
+struct Step(&'static str, u8, &'static [u8], &'static [u8]);
+
+static HOME_ALONE: [Put; 2] = [MANIFEST, HOME];
+
+static HOME_STEPS: [Step; 2] = [
+    Step(WORDS, 0, b"classes 0\ngeneration 1\n", b""),
+    Step("lookup App\\Home", 0, b"src/Home.php\n", b""),
+];
+
+static LOADED: [Put; 1] = [(
+    b"composer.json",
+    Content::Bytes(b"{\"name\":\"x/y\",\"autoload\":{\"files\":[\"b.php\"]}}"),
+)];
+
+static LOADED_STEPS: [Step; 3] = [
+    Step(WORDS, 0, b"classes 0\ngeneration 1\n", b""),
+    Step("files", 0, b"b.php\n", b""),
+    Step(WORDS, 0, b"classes 0\ngeneration 2\n", b""),
+];
+
+static EXCLUDED: [Put; 2] = [
+    (
+        b"composer.json",
+        Content::Bytes(
+            b"{\"autoload\":{\"psr-4\":{\"App\\\\\":\"src\"},\"exclude-from-classmap\":[\"src/X.php\"]}}",
+        ),
+    ),
+    (
+        b"src/X.php",
+        Content::Bytes(b"<?php namespace App; class X {}"),
+    ),
+];
+
+static EXCLUDED_STEPS: [Step; 4] = [
+    Step("dump-autoload -o", 0, b"classes 0\ngeneration 1\n", b""),
+    Step("lookup App\\X", 0, b"src/X.php\n", b""),
+    Step("dump-autoload -a", 0, b"classes 0\ngeneration 2\n", b""),
+    Step("lookup App\\X", 1, b"", NOT_FOUND),
+];
+
+static SHOP_STEPS: [Step; 6] = [
+    Step(
+        "install",
+        0,
+        b"package acme/clock 2.0.1\npackage acme/log 1.2.5\nclasses 0\ngeneration 1\n",
+        b"",
+    ),
+    Step("dump-autoload -o", 0, b"classes 3\ngeneration 2\n", b""),
+    Step("lookup App\\Foo", 1, b"", NOT_FOUND),
+    Step("lookup App\\helpers", 0, b"src/helpers.php\n", b""),
+    Step("dump-autoload -a", 0, b"classes 3\ngeneration 3\n", b""),
+    Step("lookup App\\helpers", 1, b"", NOT_FOUND),
+];
+
+/// Runs steps one after another over a project.
+fn steps_are_taken(
+    rt: &impl Abort,
+    alloc: Global,
+    project: &'static [Put],
+    steps: &[Step],
+) -> Result<(), Fail> {
+    let mut tree = tree_of(rt, alloc, &refused(project, "", 0, b""))?;
+    for step in steps {
+        let row = Row {
+            project,
+            words: step.0,
+            status: step.1,
+            out: step.2,
+            errs: step.3,
+        };
+        gives(rt, alloc, &row, &mut tree)?;
+    }
+    Ok(())
+}
+
+#[test]
+fn worked_dumps(rt: HostRuntime) -> Result<(), Fail> {
+    let alloc = rt.alloc();
+    steps_are_taken(&rt, alloc, &HOME_ALONE, &HOME_STEPS)?;
+    steps_are_taken(&rt, alloc, &LOADED, &LOADED_STEPS)?;
+    steps_are_taken(&rt, alloc, &EXCLUDED, &EXCLUDED_STEPS)?;
+    steps_are_taken(&rt, alloc, &SHOP, &SHOP_STEPS)
 }

@@ -7,7 +7,8 @@ use std::process::Abort;
 use std::test::Fail;
 use tree_dev::{Kind, MemoryTree, Tree};
 
-static SHOP: [Put; 8] = [
+/// An ordinary project, with two files that no row of PSR-4 declares a class by.
+pub static SHOP: [Put; 10] = [
     (
         b"composer.json",
         Content::Bytes(
@@ -43,6 +44,11 @@ static SHOP: [Put; 8] = [
         b"packages/clock/src/Utc.php",
         Content::Bytes(b"<?php namespace Acme\\Clock; class Utc {}"),
     ),
+    (
+        b"src/Foo.inc",
+        Content::Bytes(b"<?php namespace App; class Foo {}"),
+    ),
+    (b"src/helpers.php", Content::Bytes(b"<?php // helpers")),
 ];
 
 static IN_APP: [Put; 3] = [
