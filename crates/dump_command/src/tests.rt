@@ -1,5 +1,7 @@
 //! Projects whose tables are written anew.
 
+mod worked;
+
 use crate::dump_autoload;
 use composer_words::Ways;
 use path_name::{Path, Text};
@@ -7,6 +9,7 @@ use run_answers::{Refusal, error_line};
 use std::alloc::Global;
 use std::test::Fail;
 use tree_dev::{Entry, MemoryTree, ReadAnswer, Tree};
+use worked::{REFUSALS, TABLES, Worked};
 
 /// A file by its path and its bytes; with no bytes, a path at which no file is.
 #[derive(Clone, Copy)]
@@ -328,13 +331,32 @@ fn is_there(alloc: Global, tree: &mut MemoryTree, file: File) -> Option<bool> {
 }
 
 /// Whether a dump answers and leaves what it is to.
-fn dumps(alloc: Global, dump: &Dump) -> Option<bool> {
-    let mut tree = project_of(alloc, files_of(dump.project))?;
+fn works(alloc: Global, dump: &Worked) -> Option<bool> {
+    let mut tree = project_of(alloc, dump.files)?;
     let project = Path::read(alloc, b"p").ok()?;
     let answer = dump_autoload(alloc, &project, &dump.ways, &mut tree);
     let line = line_of(alloc, answer)?;
     let after = is_there(alloc, &mut tree, dump.after)?;
     Some(line.as_slice() == dump.answer && after)
+}
+
+fn dumps(alloc: Global, dump: &Dump) -> Option<bool> {
+    works(
+        alloc,
+        &Worked {
+            files: files_of(dump.project),
+            ways: dump.ways,
+            answer: dump.answer,
+            after: dump.after,
+        },
+    )
+}
+
+/// The number of the first that doesn't.
+fn first_that_fails(alloc: Global, dumps: &[Worked]) -> Option<usize> {
+    dumps
+        .iter()
+        .position(|dump| works(alloc, dump) != Some(true))
 }
 
 #[test]
@@ -350,5 +372,12 @@ fn dumps_are_refused(rt: HostRuntime) -> Result<(), Fail> {
     for (number, dump) in REFUSED.iter().enumerate() {
         assert_eq!(rt; dumps(rt.alloc(), dump), Some(true), "{number}");
     }
+    Ok(())
+}
+
+#[test]
+fn worked_projects(rt: HostRuntime) -> Result<(), Fail> {
+    assert_eq!(rt; first_that_fails(rt.alloc(), &TABLES), None);
+    assert_eq!(rt; first_that_fails(rt.alloc(), &REFUSALS), None);
     Ok(())
 }
