@@ -48,7 +48,7 @@ apart_among target (first ∷ rest) file apart (inr later) = apart_among target 
 
 module _ (project : List (List ℕ)) (t : FileTree) (old : Files) where
   -- a part elsewhere has no say
-  skip : (target other : List (List ℕ)) (text : Option (List ℕ)) (rest : List Part) → behind target other ≡ None
+  pub skip : (target other : List (List ℕ)) (text : Option (List ℕ)) (rest : List Part) → behind target other ≡ None
       → job_result project t (text_part target text ++ rest) old (project ++ other) ≡ job_result project t rest old (project ++ other)
   unfolding job_result
   skip target other None rest apart = refl

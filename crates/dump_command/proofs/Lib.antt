@@ -5,3 +5,7 @@ pub mod LooksAtFolders
 pub mod DumpedWork
 pub mod OpenedTables
 pub mod DumpedFiles
+pub mod OwnFiles
+pub mod ShownMembers
+pub mod ShownStanding
+pub mod DumpedProjects

@@ -1,2 +1,4 @@
+pub mod ClassMaps
 pub mod Standing
 pub mod Dumping
+pub mod DumpedProjects

@@ -1,25 +1,33 @@
 //! What tables that were dumped open, each as the contract of a function that does nothing.
 
-ghost use Rattle.std.specs.Prelude.{◌≡◌, ℕ, List, Bool, Ok};
+ghost use Rattle.std.specs.FinMap as map;
+ghost use Rattle.std.specs.Prelude.{◌≡◌, ℕ, List, Bool, None, Result, Ok};
+ghost use Rattle.tree_dev.specs.Projects.{work_path};
 ghost use Rattle.tree_dev.specs.Trees.{FileTree, IsTree};
-ghost use Rattle.class_paths.specs.ClassNames.{IsClassName};
+ghost use Rattle.composer_words.specs.declared.chosen.Ways.{Ways};
 ghost use Rattle.install_world.specs.InFlight.{Files, HasFiles};
 ghost use Rattle.stage_job.specs.Jobs.{job_result};
 ghost use Rattle.class_paths.specs.Search.{search_file};
-ghost use Rattle.class_lookup.specs.Lookup.{has_file, lookup_in};
+ghost use Rattle.class_lookup.specs.Lookup.{lookup_in};
 ghost use Rattle.class_walk.specs.Walks.{AreScansOf, Walked};
 ghost use Rattle.class_walk.specs.declared.job.Scanned.{Scanned};
 ghost use Rattle.table_scan.specs.TableFaults as grammar;
 ghost use Rattle.table_scan.specs.declared.types.Mode.TheVariants.{Authoritative, Optimised, Plain};
-ghost use Rattle.autoload_build.specs.Answers.{AreFound, walks_of};
+ghost use Rattle.autoload_build.specs.Answers.{walks_of};
 ghost use Rattle.autoload_build.specs.BuiltTables.{classes_of};
-ghost use Rattle.autoload_build.specs.ClassAgreement.{IsInScanReach, IsShown, IsUnambiguous};
 ghost use Rattle.autoload_build.specs.Jobs.{HasReadManifests, rows};
 ghost use Rattle.table_files.specs.NewTables.{AreNewTables};
-ghost use Rattle.table_files.specs.declared.building.NewTables.{NewTables};
-ghost use Rattle.install_commands.specs.declared.work.Work.{Work};
-ghost use Rattle.dump_command.specs.Dumping.{IsStandingWork};
 ghost use Rattle.table_files.specs.Readable.{texts_at};
+ghost use Rattle.table_files.specs.declared.building.NewTables.{NewTables};
+ghost use Rattle.run_answers.specs.Steps.{TellsOne};
+ghost use Rattle.run_answers.specs.declared.refusal.Refusal.{Refusal};
+ghost use Rattle.install_commands.specs.Claiming.{with_claim};
+ghost use Rattle.install_commands.specs.Commanded.{files_made, outcome_of_work};
+ghost use Rattle.install_commands.specs.Working.{IsInstalled};
+ghost use Rattle.install_commands.specs.declared.work.Work.{Work};
+ghost use Rattle.dump_command.specs.ClassMaps.{OpenAuthoritative, OpenOptimised};
+ghost use Rattle.dump_command.specs.DumpedProjects.{IsDumpedProject};
+ghost use Rattle.dump_command.specs.Dumping.{IsDumped, IsStandingWork};
 ghost use Rattle.dump_command.specs.Standing.{project_of};
 ghost use Rattle.dump_command.specs.declared.standing.Standing.{Standing};
 
@@ -43,24 +51,31 @@ pub fn dumped_tables()
     plain_tables();
 }
 
-/// Optimised tables that were dumped open the same file as the rows and the listed files say for each unambiguous class, and
-/// authoritative ones for each of these in reach of the scan, in a tree in which the packages stand in their places as the walks
-/// read them.
+/// Optimised tables that were dumped have in their class map each class with the first file that was found to declare it. They open
+/// the same file as the rows and the listed files say for each unambiguous class, in a tree in which the packages stand in their
+/// places as the walks read them; and whatever files there are, for each class that is listed and for each that the walks of the
+/// folders of rows don't find. Authoritative ones open what the class map has, which is the same file for each unambiguous class
+/// in reach of the scan.
 pub fn dumped_class_maps()
-    ensures optimised { (project : List (List ℕ)) (t shown : FileTree) (left after : ℕ) (standing : Standing) (new : NewTables) (name : List ℕ) →
+    ensures optimised { (project : List (List ℕ)) (t : FileTree) (left after : ℕ) (standing : Standing) (new : NewTables) →
         AreNewTables t (project_of project standing) standing.setting left (Ok (new, after)) → standing.setting.mode ≡ Optimised →
-        (listed : List Scanned) × (walked : List Scanned) × AreFound t (project_of project standing) left listed walked
-        × (IsShown (project_of project standing) t shown → IsUnambiguous shown (rows (project_of project standing)) (classes_of listed) name →
-        lookup_in new.tables (has_file shown) name ≡ search_file (has_file shown) (rows (project_of project standing)) (classes_of listed) name) }
-    ensures authoritative { (project : List (List ℕ)) (t shown : FileTree) (left after : ℕ) (standing : Standing) (new : NewTables) (name : List ℕ) →
+        OpenOptimised t (project_of project standing) left new.tables }
+    ensures authoritative { (project : List (List ℕ)) (t : FileTree) (left after : ℕ) (standing : Standing) (new : NewTables) →
         AreNewTables t (project_of project standing) standing.setting left (Ok (new, after)) → standing.setting.mode ≡ Authoritative →
-        IsTree t → HasReadManifests (project_of project standing) →
-        (listed : List Scanned) × (walked : List Scanned) × AreFound t (project_of project standing) left listed walked
-        × (IsShown (project_of project standing) t shown → IsClassName name → IsUnambiguous shown (rows (project_of project standing)) (classes_of listed) name →
-        IsInScanReach shown (project_of project standing) name →
-        lookup_in new.tables (has_file shown) name ≡ search_file (has_file shown) (rows (project_of project standing)) (classes_of listed) name) }
+        IsTree t → HasReadManifests (project_of project standing) → OpenAuthoritative t (project_of project standing) left new.tables }
 {
     optimised_tables();
     authoritative_tables();
     walks_of_rows_come_last();
 }
+
+/// What `dump-autoload` leaves where it ends well: the table files are read as the new tables of what stood at the start, and each
+/// package, and what is the project's own, stands as the walks for its classes read it, as [`dumped_class_maps`] asks for. The
+/// premises are what the contract of [`dump_autoload`](crate::dump_autoload) says of a run with lines, whose work in the claimed
+/// tree is this: u is the tree that is told then, and `start` the one before.
+pub fn dumped_projects()
+    ensures { (project : List (List ℕ)) (ways : Ways) (entries : ℕ) (start u : FileTree) (left : ℕ) (made : Result Work Refusal) (lines : List ℕ) →
+        IsTree start → IsTree u → map.get u (work_path project) ≡ None →
+        TellsOne (λ work. work) (IsDumped project ways entries (with_claim project start) left) made → outcome_of_work project start left made ≡ Ok lines →
+        IsInstalled project start (files_made project start left made) u → IsDumpedProject project ways entries start u }
+{}

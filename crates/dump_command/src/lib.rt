@@ -7,7 +7,7 @@ mod laws;
 mod standing;
 
 pub use dumping::dump_autoload;
-pub use laws::{dumped_class_maps, dumped_tables};
+pub use laws::{dumped_class_maps, dumped_projects, dumped_tables};
 
 #[cfg(test)]
 mod tests;
