@@ -7,4 +7,16 @@ pub mod InstallWarnings
 pub mod StandingFiles
 pub mod FewWrites
 pub mod ShownPackages
+pub mod FormedChoices
+pub mod AlwaysCommits
+pub mod DoneCommands
+pub mod ClaimedTrees
+pub mod ClassPaths
+pub mod AsideFiles
+pub mod MergedTrees
+pub mod ShownTrees
+pub mod InstalledTables
+pub mod InstalledLocks
+pub mod InstalledAgain
+pub mod WalkedNames
 pub mod OpenedClasses

@@ -1,37 +1,44 @@
 -- Which file a class opens in an installed project, by tables that list the classes of rows too.
-use Rattle.std.proofs.Common.{◌≡◌, ℕ, Bool, List, [], ◌∷◌, Ok, sym, ap, subst, ◌∙◌}
+use Rattle.std.proofs.Common.{◌≡◌, ℕ, Bool, List, [], ◌∷◌, ◌++◌, Option, Ok, sym, ap, subst, ◌∙◌, inl, inr}
+use Rattle.std.specs.Prelude.{◌⊎◌}
 use Rattle.std.specs.List.{AllByRecursion}
+use Rattle.std.specs.Option.{option_or}
 use Rattle.path_name.specs.Given.{◌>>=◌}
-use Rattle.tree_dev.specs.Projects.{file_at}
-use Rattle.tree_dev.specs.Trees.{FileTree, IsTree}
-use Rattle.stage_job.specs.Jobs.{job_result}
-use Rattle.class_lookup.specs.Lookup.{lookup_in}
+use Rattle.tree_dev.specs.Trees.{FileTree}
+use Rattle.tree_dev.specs.declared.limits.TheConstants.{ENTRIES}
+use Rattle.composer_words.specs.declared.chosen.Ways.{Ways}
+use Rattle.class_lookup.specs.Lookup.{has_file, lookup_in}
+use Rattle.class_paths.specs.ClassNames.{IsClassName}
+use Rattle.class_paths.specs.Search.{found_file, listed_file, search_file}
 use Rattle.class_walk.specs.declared.job.Scanned.{Scanned}
 use Rattle.table_scan.specs.declared.types.Mode.{Mode}
+use Rattle.table_scan.specs.declared.types.Mode.TheVariants.{Authoritative, Optimised}
 use Rattle.autoload_build.specs.Answers.{walks_of}
-use Rattle.autoload_build.specs.BuiltTables.{tables_of}
-use Rattle.autoload_build.specs.ClassAgreement.{IsShown}
-use Rattle.autoload_build.specs.Jobs.{HasReadManifests}
-use Rattle.install_world.specs.InFlight.{HasFiles}
+use Rattle.autoload_build.specs.BuiltTables.{classes_of, tables_of}
+use Rattle.autoload_build.specs.ClassAgreement.{IsInScanReach, IsUnambiguous}
+use Rattle.autoload_build.specs.Jobs.{HasReadManifests, Project, rows}
+use Rattle.autoload_build.proofs.LookedUp.{authoritative, both_parts}
 use Rattle.lock_file.specs.FormedLocks.{IsLocked}
 use Rattle.lock_file.specs.declared.types.Locked.{Locked}
 use Rattle.manifest_read.specs.WellFormed.{IsPackage}
 use Rattle.manifest_read.specs.declared.types.Role.TheVariants.{Member}
 use Rattle.psr_routes.specs.declared.types.Placed.{Placed}
+use Rattle.project_files.specs.States.{generation_in}
 use Rattle.install_sources.specs.Sources.{copied_from, placed_each, placed_in, source_checked, source_folder}
 use Rattle.install_sources.proofs.LockEntries.{entries_formed}
+use Rattle.install_choice.specs.Choosing.{IsChosenToInstall, IsChosenToUpdate}
 use Rattle.install_choice.specs.Planning.{IsChoice}
-use Rattle.install_choice.proofs.Steps.{both_ok, same_value}
 use Rattle.install_choice.specs.declared.chosen.Chosen.{Chosen}
+use Rattle.install_choice.proofs.Steps.{both_ok, same_value}
+use Rattle.install_commands.specs.Claiming.{with_claim}
 use Rattle.install_commands.specs.declared.work.Work.{Work}
 use Rattle.table_files.specs.declared.building.Setting.{Setting}
-use Rattle.install_packages.specs.Installations.{AreOwnFilesKept, Installation, project_in, tables_in}
-use Rattle.install_packages.proofs.ShownPackages.{packages_shown}
+use Rattle.install_packages.specs.Installations.{HasNewProject, Installation, project_in, tables_in}
+use Rattle.install_packages.specs.Installing.{setting_of}
+use Rattle.install_packages.proofs.FormedChoices.{install_formed, update_formed}
+use Rattle.install_packages.proofs.ShownTrees.{looked_apart, own_apart, reach_there, same_search, shown, unambiguous_there}
 
 module _ (t : FileTree) (at : List (List ℕ)) (chosen : Chosen) (setting : Setting) (left after : ℕ) (work : Work) (made : Installation t at chosen setting left after work) where
-  pub is_shown : (u : FileTree) → IsTree t → IsTree u → HasFiles at u (job_result at t work.job.parts (file_at t)) → AreOwnFilesKept at t u → IsShown (project_in made) t u
-  is_shown u tree standing stand own = record { own = own; packages = packages_shown t u at chosen setting left after work made tree standing stand }
-
   -- the walks of a mode
   pub walks_in : (mode : Mode) → setting.mode ≡ mode → walks_of t (project_in made) mode left ≡ Ok made.walked
   walks_in mode is = ap (λ (some : Mode). walks_of t (project_in made) some left) (sym is) ∙ made.walks
@@ -69,3 +76,59 @@ have_read_manifests t at chosen setting left after work made choice = record {
   members =
       read_members t at made.are_members.entries made.members (entries_formed chosen.lock setting.dev made.are_members.entries choice.lock made.are_members.by_name) (sym made.are_members.is_made);
 }
+
+-- ---- a new project
+
+module _ (at : List (List ℕ)) (ways : Ways) (start u : FileTree) (new : HasNewProject at ways start u) where
+  abbrev party : Project
+  party = project_in new.made
+
+  abbrev now : FileTree
+  now = shown at (with_claim at start) u
+
+  abbrev setting : Setting
+  setting = setting_of ways new.choice.0.root (generation_in (with_claim at start) at)
+
+  is_choice : IsChoice new.choice.0
+  is_choice = by new.is_chosen
+    where
+      by : IsChosenToInstall (with_claim at start) at ENTRIES (Ok new.choice) ⊎ IsChosenToUpdate (with_claim at start) at ENTRIES (Ok new.choice) → IsChoice new.choice.0
+      by (inl install) = install_formed (with_claim at start) at ENTRIES new.choice install
+      by (inr update) = update_formed (with_claim at start) at ENTRIES new.choice update
+
+  pub read_manifests : HasReadManifests party
+  read_manifests = have_read_manifests (with_claim at start) at new.choice.0 setting new.choice.1 new.after new.work new.made is_choice
+
+  module _ (listed walked : List Scanned) (name : List ℕ) (both : new.made.found ≡ listed ++ walked) where
+    pub opened : (mode : Mode) → setting.mode ≡ mode → lookup_in (tables_in new.made) (has_file u) name ≡ lookup_in (tables_of party mode new.work.generation (listed ++ walked)) (has_file u) name
+    opened mode is = opens_in (with_claim at start) at new.choice.0 setting new.choice.1 new.after new.work new.made mode (listed ++ walked) (has_file u) name is both
+
+  module _ (listed walked : List Scanned) (name : List ℕ) (both : new.made.found ≡ listed ++ walked) (named : IsClassName name) where
+    same : found_file (has_file now) (rows party) name ≡ found_file (has_file u) (rows party) name
+    same = same_search at (with_claim at start) u party name (looked_apart at ways start u new read_manifests name named)
+
+    pub clear_there : IsUnambiguous u (rows party) (classes_of listed) name → IsUnambiguous now (rows party) (classes_of listed) name
+    clear_there clear = unambiguous_there at (with_claim at start) u party name (looked_apart at ways start u new read_manifests name named) (classes_of listed) clear
+
+    pub scan_there : IsInScanReach u party name → IsInScanReach now party name
+    scan_there reach =
+        reach_there at (with_claim at start) u party name (looked_apart at ways start u new read_manifests name named) (own_apart at ways start u new read_manifests name named) reach
+
+    searched : search_file (has_file now) (rows party) (classes_of listed) name ≡ search_file (has_file u) (rows party) (classes_of listed) name
+    unfolding search_file
+    searched = ap (λ (found : Option (List (List ℕ))). option_or (listed_file (classes_of listed) name) found) same
+
+    pub optimised_there : setting.mode ≡ Optimised
+        → lookup_in (tables_of party Optimised new.work.generation (listed ++ walked)) (has_file now) name ≡ search_file (has_file now) (rows party) (classes_of listed) name
+        → lookup_in (tables_in new.made) (has_file u) name ≡ search_file (has_file u) (rows party) (classes_of listed) name
+    optimised_there mode agree =
+        opened listed walked name both Optimised mode ∙ both_parts party new.work.generation listed walked (has_file u) name
+        ∙ ap (λ (found : Option (List (List ℕ))). option_or (option_or (listed_file (classes_of listed) name) (listed_file (classes_of walked) name)) found) (sym same)
+        ∙ sym (both_parts party new.work.generation listed walked (has_file now) name) ∙ agree ∙ searched
+
+    pub authoritative_there : setting.mode ≡ Authoritative
+        → lookup_in (tables_of party Authoritative new.work.generation (listed ++ walked)) (has_file now) name ≡ search_file (has_file now) (rows party) (classes_of listed) name
+        → lookup_in (tables_in new.made) (has_file u) name ≡ search_file (has_file u) (rows party) (classes_of listed) name
+    authoritative_there mode agree =
+        opened listed walked name both Authoritative mode ∙ authoritative party new.work.generation (listed ++ walked) (has_file u) name
+        ∙ sym (authoritative party new.work.generation (listed ++ walked) (has_file now) name) ∙ agree ∙ searched

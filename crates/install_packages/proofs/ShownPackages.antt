@@ -43,11 +43,11 @@ found_first : (b : Bool) (rest : List (List ℕ)) → is_some (cond b (Some rest
 found_first true rest = refl
 found_first false rest = refl
 
-top_within : (source : List (List ℕ)) (name top : List ℕ) (rest : List (List ℕ)) → is_within (source ++ name ∷ []) (source ++ top ∷ rest) ≡ bytes_are_equal top name
+pub top_within : (source : List (List ℕ)) (name top : List ℕ) (rest : List (List ℕ)) → is_within (source ++ name ∷ []) (source ++ top ∷ rest) ≡ bytes_are_equal top name
 top_within source name top rest =
     ap is_some (behind_same_head source (name ∷ []) (top ∷ rest)) ∙ found_first (bytes_are_equal name top) rest ∙ same_both name top
 
-none_within : (source : List (List ℕ)) (name : List ℕ) → is_within (source ++ name ∷ []) (source ++ []) ≡ false
+pub none_within : (source : List (List ℕ)) (name : List ℕ) → is_within (source ++ name ∷ []) (source ++ []) ≡ false
 none_within source name = ap is_some (behind_same_head source (name ∷ []) [])
 
 any_of_three : (a b d : Bool) → a || (b || (d || false)) ≡ a || b || d
@@ -89,7 +89,7 @@ module _ (t : FileTree) (tree : IsTree t) (source : List (List ℕ)) where
 
 -- ---- all packages
 
-abbrev IsCopied : List (List ℕ) → Placed → Type 0
+abbrev pub IsCopied : List (List ℕ) → Placed → Type 0
 IsCopied at one = (one.mirrored ≡ true) × (one.shown ≡ package_place at one.«package».name)
 
 copied : (t : FileTree) (at : List (List ℕ)) (locked : Locked) (one : Placed) → placed_in t at locked ≡ Ok one → IsCopied at one
@@ -133,10 +133,12 @@ module _ (at : List (List ℕ)) (t u : FileTree) (files : Files) (tree : IsTree 
 
 -- ---- an installation
 
-pub packages_shown : (t u : FileTree) (at : List (List ℕ)) (chosen : Chosen) (setting : Setting) (left after : ℕ) (work : Work) (made : Installation t at chosen setting left after work)
-    → IsTree t → IsTree u → HasFiles at u (job_result at t work.job.parts (file_at t)) → ArePackagesShown t u made.members
-packages_shown t u at chosen setting left after work made tree standing stand =
-    let new : HasFiles at u (installed_files at t made.members made.files (file_at t)) =
-    record { each = λ path part. stand.each path part ∙ new_project t at chosen setting left after work made path tree } in
-    all_shown at t u (installed_files at t made.members made.files (file_at t)) tree standing new made.members (all_copied t at made.are_members.entries made.members (sym made.are_members.is_made))
-    (packages_stand t at chosen setting left after work made (file_at t))
+module _ (t : FileTree) (at : List (List ℕ)) (chosen : Chosen) (setting : Setting) (left after : ℕ) (work : Work) (made : Installation t at chosen setting left after work) where
+  pub members_copied : AllByRecursion (IsCopied at) made.members
+  members_copied = all_copied t at made.are_members.entries made.members (sym made.are_members.is_made)
+
+  pub packages_shown : (u : FileTree) → IsTree t → IsTree u → HasFiles at u (job_result at t work.job.parts (file_at t)) → ArePackagesShown t u made.members
+  packages_shown u tree standing stand =
+      let new : HasFiles at u (installed_files at t made.members made.files (file_at t)) =
+      record { each = λ path part. stand.each path part ∙ new_project t at chosen setting left after work made path tree } in
+      all_shown at t u (installed_files at t made.members made.files (file_at t)) tree standing new made.members members_copied (packages_stand t at chosen setting left after work made (file_at t))

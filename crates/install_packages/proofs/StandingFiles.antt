@@ -6,6 +6,7 @@ use Rattle.tree_dev.specs.Projects.{lock_path}
 use Rattle.tree_dev.specs.Trees.{FileTree}
 use Rattle.stage_job.specs.Jobs.{Files}
 use Rattle.class_walk.specs.declared.job.Scanned.{Scanned}
+use Rattle.project_files.specs.Places.{table_place}
 use Rattle.table_scan.specs.TableFaults as grammar
 use Rattle.table_scan.specs.declared.types.Mode.{Mode}
 use Rattle.table_scan.specs.declared.types.TableFile.TheVariants as files
@@ -96,13 +97,19 @@ module _ (t : FileTree) (at : List (List ℕ)) (chosen : Chosen) (setting : Sett
   abbrev stands : Files
   stands = installed_files at t made.members made.files old
 
-  there : AreWrittenAt at stands (install_files (printed at (tables_in made)) made.are_files.installed chosen.text)
+  pub there : AreWrittenAt at stands (install_files (printed at (tables_in made)) made.are_files.installed chosen.text)
   there = subst (AreWrittenAt at stands) made.are_files.are (files_stand t at chosen setting left after work made old)
 
+  pub texts_stand : texts_of at stands ≡ printed at (tables_in made)
+  texts_stand = printed_texts at stands (project_with at chosen.root made.members setting.dev) setting.mode work.generation made.found made.are_files.installed chosen.text there
+
   pub tables_read : grammar.tables_of at (texts_of at stands) ≡ Ok (tables_in made)
-  tables_read =
-      ap (grammar.tables_of at) (printed_texts at stands (project_with at chosen.root made.members setting.dev) setting.mode work.generation made.found made.are_files.installed chosen.text there)
-      ∙ made.are_files.read_back
+  tables_read = ap (grammar.tables_of at) texts_stand ∙ made.are_files.read_back
+
+  -- the state among them
+  pub state_stands : stands (table_place at files.State) ≡ Some (state_text (record { mode = setting.mode; generation = work.generation }))
+  unfolding printed tables_of
+  state_stands = ap (λ (texts : TableTexts). texts.state) texts_stand
 
   pub lock_stands : (text : List ℕ) → chosen.text ≡ Some text → stands (lock_path at) ≡ Some text
   lock_stands text is =

@@ -1,15 +1,18 @@
 -- All that an install of packages commits, put together from its steps.
-use Rattle.std.specs.Prelude.{◌≡◌, ℕ, true, false, codes, List, [], ◌∷◌, ◌++◌, Some, None, Ok, IfSome}
+use Rattle.std.specs.Prelude.{◌≡◌, ◌⊎◌, ℕ, true, List, [], ◌∷◌, ◌++◌, Some, None, Ok, IfSome}
+use Rattle.std.specs.FinMap as map
 use Rattle.std.specs.List.{AllByRecursion}
-use Rattle.tree_dev.specs.Projects.{bytes_of, is_within, vendor_path}
-use Rattle.tree_dev.specs.Trees.{FileTree, behind}
+use Rattle.tree_dev.specs.Projects.{bytes_of, file_at, work_path}
+use Rattle.tree_dev.specs.Trees.{FileTree, behind, has_folder}
+use Rattle.tree_dev.specs.declared.limits.TheConstants.{ENTRIES}
+use Rattle.composer_words.specs.declared.chosen.Ways.{Ways}
 use Rattle.package_moves.specs.Moves.{IsJobFor, moves_checked}
 use Rattle.package_moves.specs.Wanted.{without_vendor}
 use Rattle.psr_routes.specs.declared.types.Placed.{Placed}
 use Rattle.stage_job.specs.Jobs.{AreParts, Files, job_result}
 use Rattle.stage_job.specs.declared.job.Part.{Part}
 use Rattle.stage_job.specs.Mirrored.{mirrored}
-use Rattle.class_walk.specs.Walks.{AreScansOf, Walked, ends_in, last_of}
+use Rattle.class_walk.specs.Walks.{AreScansOf, Walked}
 use Rattle.class_walk.specs.declared.job.Scanned.{Scanned}
 use Rattle.table_scan.specs.declared.types.Tables.{Tables}
 use Rattle.autoload_build.specs.Answers.{walks_of}
@@ -18,13 +21,17 @@ use Rattle.autoload_build.specs.ClassAgreement.{file_in, file_of_package}
 use Rattle.autoload_build.specs.Jobs.{Project}
 use Rattle.install_sources.specs.Folders.{package_place}
 use Rattle.install_sources.specs.Sources.{AreMembers}
+use Rattle.project_files.specs.States.{generation_in}
+use Rattle.install_choice.specs.Choosing.{IsChosenToInstall, IsChosenToUpdate}
 use Rattle.install_choice.specs.declared.chosen.Chosen.{Chosen}
+use Rattle.install_commands.specs.Claiming.{with_claim}
+use Rattle.install_commands.specs.Working.{IsInstalled}
 use Rattle.install_commands.specs.declared.work.Work.{Work}
 use Rattle.table_files.specs.Modes.{next_generation}
 use Rattle.table_files.specs.Written.{files_checked, parts_of, place_in}
 use Rattle.table_files.specs.declared.written.WrittenFile.{WrittenFile}
 use Rattle.install_packages.specs.InstallParts.{AreFilesOf, CanBeMade, copy_parts}
-use Rattle.install_packages.specs.Installing.{install_lines}
+use Rattle.install_packages.specs.Installing.{install_lines, setting_of}
 use Rattle.table_files.specs.NewTables.{project_with}
 use Rattle.table_files.specs.declared.building.Setting.{Setting}
 
@@ -81,7 +88,18 @@ tables_in {t} {at} {chosen} {setting} {left} {after} {work} made = tables_of (pr
 abbrev pub ArePackagesShown : FileTree → FileTree → List Placed → Type 0
 ArePackagesShown read shown members = AllByRecursion (λ one. (below : List (List ℕ)) → file_in shown (one.shown ++ below) ≡ file_of_package read one below) members
 
--- outside of `vendor` the files whose names end in `.php` are the same in two trees
-abbrev pub AreOwnFilesKept : List (List ℕ) → FileTree → FileTree → Type 0
-AreOwnFilesKept at read shown =
-    (path : List (List ℕ)) → is_within (vendor_path at) path ≡ false → ends_in (codes ".php") (last_of path) ≡ true → file_in shown path ≡ file_in read path
+-- What a command that began in a tree has made in another one: under its claim it chose packages, of the lock that stands or of
+-- a new plan, and their installation stands there, in the surroundings of the beginning.
+pub record HasNewProject (at : List (List ℕ)) (ways : Ways) (start u : FileTree) : Type 0 where
+  pub folder : has_folder start (Some at) ≡ true
+  pub unclaimed : map.get start (work_path at) ≡ None
+  pub choice : Chosen × ℕ
+  pub is_chosen : IsChosenToInstall (with_claim at start) at ENTRIES (Ok choice) ⊎ IsChosenToUpdate (with_claim at start) at ENTRIES (Ok choice)
+  pub after : ℕ
+  pub work : Work
+  pub made : Installation (with_claim at start) at choice.0 (setting_of ways choice.0.root (generation_in (with_claim at start) at)) choice.1 after work
+  pub stands : IsInstalled at start (job_result at (with_claim at start) work.job.parts (file_at start)) u
+
+-- a choice whose lock stands already
+abbrev pub kept_choice : Chosen → Chosen
+kept_choice chosen = record { root = chosen.root; lock = chosen.lock; text = None }

@@ -1,19 +1,28 @@
 //! Laws of what the commands install, each as the contract of a function that does nothing.
 
-ghost use Rattle.std.specs.Prelude.{◌≡◌, ◌≤◌, ◌+◌, ◌++◌, ◌⊎◌, ℕ, List, Bool, true, false, Some, None, is_some, Ok};
+ghost use Rattle.std.specs.Prelude.{◌≡◌, ◌≢◌, ◌<◌, ◌≤◌, ◌^◌, ◌+◌, ◌++◌, ◌⊎◌, ℕ, List, [], Bool, true, false, Some, None, is_some, Result, Ok};
 ghost use Rattle.std.specs.FinMap as map;
 ghost use Rattle.tree_dev.specs.Projects.{file_at, is_within, lock_path, vendor_path, work_path};
 ghost use Rattle.tree_dev.specs.Trees.{FileTree, IsTree};
+ghost use Rattle.tree_dev.specs.Device.{Meaning};
+ghost use Rattle.tree_dev.specs.Disk.{IsImage};
+ghost use Rattle.tree_dev.specs.Steady.{EachImage, IsSteadily};
+ghost use Rattle.tree_dev.specs.declared.limits.TheConstants.{ENTRIES};
 ghost use Rattle.composer_words.specs.declared.chosen.Ways.{Ways};
 ghost use Rattle.stage_job.specs.Jobs.{Files, job_result};
+ghost use Rattle.project_files.specs.ProjectLock.{project_lock_in};
+ghost use Rattle.project_files.specs.ProjectManifest.{project_manifest_in};
 ghost use Rattle.project_files.specs.States.{generation_in};
-ghost use Rattle.install_choice.specs.Planning.{IsChoice};
+ghost use Rattle.project_files.specs.declared.manifests.ProjectManifest.{ProjectManifest as Manifests};
 ghost use Rattle.install_choice.specs.Choosing.{IsChosenToInstall, IsChosenToUpdate};
+ghost use Rattle.install_choice.specs.Warnings.{warning_in};
 ghost use Rattle.install_choice.specs.declared.chosen.Chosen.{Chosen};
+ghost use Rattle.run_answers.specs.declared.refusal.Refusal.{Refusal};
 ghost use Rattle.install_commands.specs.Claiming.{with_claim};
+ghost use Rattle.install_commands.specs.Commanded.{Commanded};
 ghost use Rattle.install_commands.specs.declared.work.Work.{Work as Works};
 ghost use Rattle.table_files.specs.declared.building.Setting.{Setting};
-ghost use Rattle.install_packages.specs.Installations.{AreOwnFilesKept, ArePackagesAt, ArePackagesShown, AreWrittenAt, Installation, IsOffTargets, installed_files, project_in, tables_in};
+ghost use Rattle.install_packages.specs.Installations.{ArePackagesAt, ArePackagesShown, AreWrittenAt, HasNewProject, Installation, IsOffTargets, installed_files, kept_choice, project_in, tables_in};
 ghost use Rattle.class_lookup.specs.Lookup.{has_file, lookup_in};
 ghost use Rattle.class_paths.specs.ClassNames.{IsClassName};
 ghost use Rattle.class_paths.specs.Search.{listed_file, search_file};
@@ -30,9 +39,10 @@ ghost use Rattle.package_moves.specs.Found.{AreStanding};
 ghost use Rattle.package_moves.specs.Moves.{HasFolders};
 ghost use Rattle.install_writes.specs.FewWrites.{differing_mirrored};
 ghost use Rattle.stage_job.specs.Written.{after_more};
-ghost use Rattle.install_choice.specs.LockLaws.{HasNewLock};
+ghost use Rattle.install_choice.specs.LockLaws.{HasNewLock, IsMet};
 ghost use Rattle.install_commands.specs.Working.{writes_of};
-ghost use Rattle.table_files.specs.Readable.{texts_of};
+ghost use Rattle.table_files.specs.Modes.{mode_of};
+ghost use Rattle.table_files.specs.Readable.{texts_at, texts_of};
 ghost use Rattle.table_files.specs.Written.{parts_of};
 ghost use Rattle.install_packages.specs.InstallParts.{copy_parts};
 ghost use Rattle.install_packages.specs.Installing.{IsInstall, IsUpdate, setting_of};
@@ -51,6 +61,29 @@ pub fn commands_install_what_they_choose()
     ensures claimed { (at : List (List ℕ)) (t : FileTree) (path : List (List ℕ)) → map.get t (work_path at) ≡ None → file_at (with_claim at t) path ≡ file_at t path }
 {}
 
+/// Whatever a crash may leave once a command answered its lines has the project that it made: an installation of the packages
+/// that it chose, in the surroundings of before. As for the command, each tree that a crash may leave at the start has the project
+/// and the surroundings of the one that is told, and no journal.
+pub fn commands_make_new_projects()
+    ensures install { (at : List (List ℕ)) (ways : Ways) (start u : FileTree) (before now : Meaning) (lines : List ℕ) → Commanded (IsInstall at ways ENTRIES) at start before now (Ok lines)
+        → EachImage before (IsSteadily at start) → IsImage now.disks.now u → HasNewProject at ways start u }
+    ensures update { (at : List (List ℕ)) (ways : Ways) (start u : FileTree) (before now : Meaning) (lines : List ℕ) → Commanded (IsUpdate at ways ENTRIES) at start before now (Ok lines)
+        → EachImage before (IsSteadily at start) → IsImage now.disks.now u → HasNewProject at ways start u }
+{}
+
+/// The tree with the claim, of which the laws of such projects speak, is a tree where the one at the start is, and has room for one
+/// more entry.
+pub fn claimed_projects_are_trees()
+    ensures { (at : List (List ℕ)) (ways : Ways) (start u : FileTree) (new : HasNewProject at ways start u) → IsTree start → map.len start + 1 < 2 ^ 32 → IsTree (with_claim at start) }
+{}
+
+/// The job of a command that answers its lines is never empty: the state of the tables is written each time, since its generation
+/// is a new one.
+pub fn commands_always_commit()
+    ensures install { (at : List (List ℕ)) (ways : Ways) (left after : ℕ) (t : FileTree) (work : Works) → IsTree t → IsInstall at ways left t after (Ok work) → work.job.parts ≢ [] }
+    ensures update { (at : List (List ℕ)) (ways : Ways) (left after : ℕ) (t : FileTree) (work : Works) → IsTree t → IsUpdate at ways left t after (Ok work) → work.job.parts ≢ [] }
+{}
+
 /// What an installation's job makes of a project is the new one: the copy of each package, each written file in its place,
 /// nothing else in `vendor`, and elsewhere the files of before.
 pub fn installations_make_the_new_project()
@@ -66,17 +99,37 @@ pub fn installations_make_the_new_project()
         (old : Files) (path : List (List ℕ)) → IsOffTargets at made.members made.files path → is_within (vendor_path at) path ≡ false → installed_files at t made.members made.files old path ≡ old path }
 {}
 
-/// The table files of an installed project are read as the tables of its packages; and plain ones open, for every class and
+/// The table files of an installed project are read as the tables of its packages, also where a command made it; and plain ones open, for every class and
 /// whatever files there are, the first listed file that declares it, and else the first file to which the rows lead it.
 pub fn installed_tables()
     ensures read { (t : FileTree) (at : List (List ℕ)) (chosen : Chosen) (setting : Setting) (left after : ℕ) (work : Works) (made : Installation t at chosen setting left after work)
         (old : Files) → grammar.tables_of at (texts_of at (installed_files at t made.members made.files old)) ≡ Ok (tables_in made) }
+    ensures stand { (at : List (List ℕ)) (ways : Ways) (start u : FileTree) (new : HasNewProject at ways start u) → IsTree (with_claim at start)
+        → grammar.tables_of at (texts_at at u) ≡ Ok (tables_in new.made) }
     ensures plain { (t : FileTree) (at : List (List ℕ)) (chosen : Chosen) (setting : Setting) (left after : ℕ) (work : Works) (made : Installation t at chosen setting left after work)
         (is_file : List (List ℕ) → Bool) (name : List ℕ) → setting.mode ≡ Plain
         → lookup_in (tables_in made) is_file name ≡ search_file is_file (rows (project_in made)) (classes_of made.found) name }
 {
     plain_tables();
 }
+
+/// The lock that stands in a project that a command made is read as that of the packages that were chosen, and all of them together,
+/// those for development too, are a valid plan for the composer.json that stands.
+pub fn installed_locks_are_met()
+    ensures read { (at : List (List ℕ)) (ways : Ways) (start u : FileTree) (new : HasNewProject at ways start u) → IsTree (with_claim at start) → project_lock_in u at ≡ Ok new.choice.0.lock }
+    ensures met { (at : List (List ℕ)) (ways : Ways) (start u : FileTree) (new : HasNewProject at ways start u) → IsMet at new.choice.0.root new.choice.0.lock }
+    ensures root { (at : List (List ℕ)) (ways : Ways) (start u : FileTree) (new : HasNewProject at ways start u)
+        → (manifest : Manifests) × (project_manifest_in u at ≡ Ok manifest) × (new.choice.0.root ≡ manifest.root) }
+{}
+
+/// Right after a command that answered its lines `install` takes the lock that stands, and is not refused by it; after an update it
+/// doesn't warn that this lock is out of date.
+pub fn installs_again_take_the_lock()
+    ensures taken { (at : List (List ℕ)) (ways : Ways) (start u : FileTree) (new : HasNewProject at ways start u) (more : ℕ) (made : Result (Chosen × ℕ) Refusal)
+        → IsTree (with_claim at start) → IsChosenToInstall (with_claim at u) at more made → made ≡ Ok (kept_choice new.choice.0, more) }
+    ensures unwarned { (at : List (List ℕ)) (ways : Ways) (start u : FileTree) (new : HasNewProject at ways start u)
+        → IsTree (with_claim at start) → IsChosenToUpdate (with_claim at start) at ENTRIES (Ok new.choice) → warning_in (with_claim at u) at ≡ [] }
+{}
 
 /// After an update the lock that stands is the text of the lock of the first-choice plan; a lock that is written at all stands
 /// with its text.
@@ -106,16 +159,17 @@ pub fn installed_packages_are_shown()
         → IsTree t → IsTree u → HasFiles at u (job_result at t work.job.parts (file_at t)) → ArePackagesShown t u made.members }
 {}
 
-/// Optimised tables of an installed project open the same file as plain ones for each unambiguous class of the tree in which it
-/// stands; and whatever files there are, for each class that is listed and for each that the walks of the folders of rows don't
-/// find. What these find stands behind what the walks of listed paths find.
+/// Optimised tables of a project that a command made open the same file as plain ones for each class that is unambiguous in the
+/// tree in which the project stands; and whatever files there are, for each class that is listed and for each that the walks of
+/// the folders of rows don't find. What these find stands behind what the walks of listed paths find. The tree with the claim is
+/// one, as each is that a device tells.
 pub fn installed_optimised_tables()
     ensures parts { (t : FileTree) (at : List (List ℕ)) (chosen : Chosen) (setting : Setting) (left after : ℕ) (work : Works) (made : Installation t at chosen setting left after work)
         → setting.mode ≡ Optimised → (listed : List Scanned) × (walked : List Scanned) × (made.found ≡ listed ++ walked) × AreFound t (project_in made) left listed walked }
-    ensures unambiguous { (t u : FileTree) (at : List (List ℕ)) (chosen : Chosen) (setting : Setting) (left after : ℕ) (work : Works) (made : Installation t at chosen setting left after work)
-        (listed walked : List Scanned) (name : List ℕ) → setting.mode ≡ Optimised → made.found ≡ listed ++ walked → AreFound t (project_in made) left listed walked
-        → IsTree t → IsTree u → HasFiles at u (job_result at t work.job.parts (file_at t)) → AreOwnFilesKept at t u → IsUnambiguous u (rows (project_in made)) (classes_of listed) name
-        → lookup_in (tables_in made) (has_file u) name ≡ search_file (has_file u) (rows (project_in made)) (classes_of listed) name }
+    ensures unambiguous { (at : List (List ℕ)) (ways : Ways) (start u : FileTree) (new : HasNewProject at ways start u) (listed walked : List Scanned) (name : List ℕ)
+        → mode_of ways new.choice.0.root ≡ Optimised → new.made.found ≡ listed ++ walked → AreFound (with_claim at start) (project_in new.made) new.choice.1 listed walked
+        → IsTree (with_claim at start) → IsTree u → IsUnambiguous u (rows (project_in new.made)) (classes_of listed) name
+        → lookup_in (tables_in new.made) (has_file u) name ≡ search_file (has_file u) (rows (project_in new.made)) (classes_of listed) name }
     ensures others { (t : FileTree) (at : List (List ℕ)) (chosen : Chosen) (setting : Setting) (left after : ℕ) (work : Works) (made : Installation t at chosen setting left after work)
         (listed walked : List Scanned) (is_file : List (List ℕ) → Bool) (name : List ℕ) → setting.mode ≡ Optimised → made.found ≡ listed ++ walked
         → (is_some (listed_file (classes_of listed) name) ≡ true) ⊎ (listed_file (classes_of walked) name ≡ None)
@@ -125,18 +179,18 @@ pub fn installed_optimised_tables()
     optimised_tables();
 }
 
-/// Authoritative tables of an installed project open the file that the class map has for a class, and for no other class a file.
-/// They open the same file as plain ones for each unambiguous class in reach of the scan of the tree in which the project stands.
+/// Authoritative tables of a project that a command made open the file that the class map has for a class, and for no other class
+/// a file. They open the same file as plain ones for each class that is unambiguous in the tree in which the project stands, and
+/// there in reach of the scan.
 pub fn installed_authoritative_tables()
     ensures parts { (t : FileTree) (at : List (List ℕ)) (chosen : Chosen) (setting : Setting) (left after : ℕ) (work : Works) (made : Installation t at chosen setting left after work)
         → setting.mode ≡ Authoritative → (listed : List Scanned) × (walked : List Scanned) × (made.found ≡ listed ++ walked) × AreFound t (project_in made) left listed walked }
     ensures mapped { (t : FileTree) (at : List (List ℕ)) (chosen : Chosen) (setting : Setting) (left after : ℕ) (work : Works) (made : Installation t at chosen setting left after work)
         (is_file : List (List ℕ) → Bool) (name : List ℕ) → setting.mode ≡ Authoritative → lookup_in (tables_in made) is_file name ≡ listed_file (classes_of made.found) name }
-    ensures in_reach { (t u : FileTree) (at : List (List ℕ)) (chosen : Chosen) (setting : Setting) (left after : ℕ) (work : Works) (made : Installation t at chosen setting left after work)
-        (listed walked : List Scanned) (name : List ℕ) → setting.mode ≡ Authoritative → made.found ≡ listed ++ walked → AreFound t (project_in made) left listed walked
-        → IsTree t → IsTree u → HasFiles at u (job_result at t work.job.parts (file_at t)) → AreOwnFilesKept at t u → IsChoice chosen → IsClassName name
-        → IsUnambiguous u (rows (project_in made)) (classes_of listed) name → IsInScanReach u (project_in made) name
-        → lookup_in (tables_in made) (has_file u) name ≡ search_file (has_file u) (rows (project_in made)) (classes_of listed) name }
+    ensures in_reach { (at : List (List ℕ)) (ways : Ways) (start u : FileTree) (new : HasNewProject at ways start u) (listed walked : List Scanned) (name : List ℕ)
+        → mode_of ways new.choice.0.root ≡ Authoritative → new.made.found ≡ listed ++ walked → AreFound (with_claim at start) (project_in new.made) new.choice.1 listed walked
+        → IsTree (with_claim at start) → IsTree u → IsClassName name → IsUnambiguous u (rows (project_in new.made)) (classes_of listed) name → IsInScanReach u (project_in new.made) name
+        → lookup_in (tables_in new.made) (has_file u) name ≡ search_file (has_file u) (rows (project_in new.made)) (classes_of listed) name }
 {
     walks_of_rows_come_last();
     authoritative_tables();

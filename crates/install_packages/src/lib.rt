@@ -10,9 +10,10 @@ mod wanted;
 
 pub use installing::{install, update};
 pub use laws::{
-    commands_install_what_they_choose, installations_make_the_new_project,
-    installations_write_few_files, installed_authoritative_tables, installed_optimised_tables,
-    installed_packages_are_shown, installed_tables, new_locks_stand,
+    claimed_projects_are_trees, commands_always_commit, commands_install_what_they_choose,
+    commands_make_new_projects, installations_make_the_new_project, installations_write_few_files,
+    installed_authoritative_tables, installed_locks_are_met, installed_optimised_tables,
+    installed_packages_are_shown, installed_tables, installs_again_take_the_lock, new_locks_stand,
 };
 
 #[cfg(test)]

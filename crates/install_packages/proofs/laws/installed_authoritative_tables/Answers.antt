@@ -1,8 +1,9 @@
-use Rattle.std.proofs.Common.{◌++◌, refl, sym, ◌∙◌}
-use Rattle.class_lookup.specs.Lookup.{has_file}
+use Rattle.std.proofs.Common.{refl, sym, ◌∙◌}
 use Rattle.table_scan.specs.declared.types.Mode.TheVariants.{Authoritative}
 use Rattle.install_packages.specs.Installations.{project_in}
-use Rattle.install_packages.proofs.OpenedClasses.{have_read_manifests, is_shown, opens_in, walks_in}
+use Rattle.install_commands.specs.Claiming.{with_claim}
+use Rattle.install_packages.proofs.OpenedClasses.{authoritative_there, clear_there, opens_in, read_manifests, scan_there, walks_in}
+use Rattle.install_packages.proofs.ShownTrees.{is_shown, shown}
 use Rattle.install_packages.proofs.laws.installed_authoritative_tables.Goals as goal
 
 pub returns-clause-parts : goal.returns-clause-parts
@@ -16,7 +17,8 @@ returns-clause-mapped c = λ t at chosen setting left after work made is_file na
     ∙ c.authoritative_tables.ensures.mapped (project_in made) work.generation made.found is_file name
 
 pub returns-clause-in_reach : goal.returns-clause-in_reach
-returns-clause-in_reach c = λ t u at chosen setting left after work made listed walked name mode both are tree standing stand own choice named one reach.
-    opens_in t at chosen setting left after work made Authoritative (listed ++ walked) (has_file u) name mode both
-    ∙ c.authoritative_tables.ensures.in_reach (project_in made) work.generation left t u listed walked name tree (have_read_manifests t at chosen setting left after work made choice) are
-    (is_shown t at chosen setting left after work made u tree standing stand own) named one reach
+returns-clause-in_reach c = λ at ways start u new listed walked name mode both are claimed tree named one reach.
+    authoritative_there at ways start u new listed walked name both named mode
+    (c.authoritative_tables.ensures.in_reach (project_in new.made) new.work.generation new.choice.1 (with_claim at start) (shown at (with_claim at start) u) listed walked name claimed
+    (read_manifests at ways start u new) are (is_shown at ways start u new claimed tree) named (clear_there at ways start u new listed walked name both named one)
+    (scan_there at ways start u new listed walked name both named reach))
