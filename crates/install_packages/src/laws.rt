@@ -71,8 +71,8 @@ pub fn commands_make_new_projects()
         → EachImage before (IsSteadily at start) → IsImage now.disks.now u → HasNewProject at ways start u }
 {}
 
-/// The tree with the claim, of which the laws of such projects speak, is a tree where the one at the start is, and has room for one
-/// more entry.
+/// The tree with the claim, of which the laws of such projects speak, is a tree where the one at the start is, and has room for
+/// one more entry.
 pub fn claimed_projects_are_trees()
     ensures { (at : List (List ℕ)) (ways : Ways) (start u : FileTree) (new : HasNewProject at ways start u) → IsTree start → map.len start + 1 < 2 ^ 32 → IsTree (with_claim at start) }
 {}
@@ -99,8 +99,9 @@ pub fn installations_make_the_new_project()
         (old : Files) (path : List (List ℕ)) → IsOffTargets at made.members made.files path → is_within (vendor_path at) path ≡ false → installed_files at t made.members made.files old path ≡ old path }
 {}
 
-/// The table files of an installed project are read as the tables of its packages, also where a command made it; and plain ones open, for every class and
-/// whatever files there are, the first listed file that declares it, and else the first file to which the rows lead it.
+/// The table files of an installed project are read as the tables of its packages, also where a command made it; and plain ones
+/// open, for every class and whatever files there are, the first listed file that declares it, and else the first file to which
+/// the rows lead it.
 pub fn installed_tables()
     ensures read { (t : FileTree) (at : List (List ℕ)) (chosen : Chosen) (setting : Setting) (left after : ℕ) (work : Works) (made : Installation t at chosen setting left after work)
         (old : Files) → grammar.tables_of at (texts_of at (installed_files at t made.members made.files old)) ≡ Ok (tables_in made) }
@@ -113,8 +114,8 @@ pub fn installed_tables()
     plain_tables();
 }
 
-/// The lock that stands in a project that a command made is read as that of the packages that were chosen, and all of them together,
-/// those for development too, are a valid plan for the composer.json that stands.
+/// The lock that stands in a project that a command made is read as that of the packages that were chosen, and all of them
+/// together, those for development too, are a valid plan for the composer.json that stands.
 pub fn installed_locks_are_met()
     ensures read { (at : List (List ℕ)) (ways : Ways) (start u : FileTree) (new : HasNewProject at ways start u) → IsTree (with_claim at start) → project_lock_in u at ≡ Ok new.choice.0.lock }
     ensures met { (at : List (List ℕ)) (ways : Ways) (start u : FileTree) (new : HasNewProject at ways start u) → IsMet at new.choice.0.root new.choice.0.lock }
