@@ -3,3 +3,9 @@ pub mod Endings
 pub mod Performed
 pub mod WordsFirst
 pub mod Warned
+pub mod Completeness
+pub mod LookedUp
+pub mod StandingBuilt
+pub mod DoneRuns
+pub mod DumpedProjects
+pub mod InstalledProjects

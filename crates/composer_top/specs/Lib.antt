@@ -1,2 +1,4 @@
 pub mod Chosen
 pub mod Outcome
+pub mod Completeness
+pub mod Opened

@@ -1,15 +1,106 @@
 //! Laws of what commands answer, each as the contract of a function that does nothing.
 
-ghost use Rattle.std.specs.Prelude.{◌≡◌, ℕ, List, Some, Result, Err};
-ghost use Rattle.tree_dev.specs.Trees.{FileTree};
+ghost use Rattle.std.specs.Prelude.{◌≡◌, ◌⊎◌, ℕ, List, Bool, IsTrue, Some, Result, Ok, Err};
+ghost use Rattle.tree_dev.specs.Trees.{FileTree, IsTree};
 ghost use Rattle.tree_dev.specs.Device.{Meaning};
+ghost use Rattle.tree_dev.specs.Disk.{IsImage};
+ghost use Rattle.tree_dev.specs.Steady.{EachImage, IsSteadily};
+ghost use Rattle.tree_dev.specs.declared.limits.TheConstants.{ENTRIES};
+ghost use Rattle.class_walk.specs.Walks.{AreScansOf, Walked};
+ghost use Rattle.class_walk.specs.declared.job.Scanned.{Scanned};
+ghost use Rattle.table_scan.specs.declared.types.Mode.TheVariants.{Plain};
+ghost use Rattle.table_scan.specs.declared.types.Tables.{Tables};
+ghost use Rattle.autoload_build.specs.Answers.{walks_of};
+ghost use Rattle.composer_words.specs.declared.chosen.Ways.{Ways};
+ghost use Rattle.table_files.specs.NewTables.{AreNewTables};
+ghost use Rattle.table_files.specs.declared.building.NewTables.{NewTables};
+ghost use Rattle.install_commands.specs.Claiming.{with_claim};
+ghost use Rattle.dump_command.specs.DumpedProjects.{IsDumpedProject};
+ghost use Rattle.dump_command.specs.Standing.{project_of};
+ghost use Rattle.install_packages.specs.Installations.{HasNewProject, project_in, tables_in};
+ghost use Rattle.plan_rules.specs.declared.rule.Verdict.TheVariants.{Meets};
+ghost use Rattle.table_files.specs.Modes.{mode_of};
 ghost use Rattle.run_answers.specs.declared.refusal.Refusal.{Refusal};
-ghost use Rattle.composer_top.specs.declared.report.Report.{Report};
-ghost use Rattle.composer_top.specs.Outcome.{IsOutcome, words_refusal};
+ghost use Rattle.composer_top.specs.declared.report.Report.{Report as Reports};
+ghost use Rattle.composer_top.specs.Completeness.{HasRun, IsStatusOf, NothingFailed, Replies};
+ghost use Rattle.composer_top.specs.Opened.{AreTablesStanding, HasNewTables, HasUpdated, OpensByRows, opened_in};
+ghost use Rattle.composer_top.specs.Outcome.{IsOutcome, Outputs, RunChanges, is_done, words_refusal};
+ghost use Rattle.composer_top.specs.Outcome.Check.{check_outcome, check_report};
+ghost use Rattle.composer_top.specs.Outcome.Dump.{IsDumpWork};
+ghost use Rattle.composer_top.specs.Outcome.Install.{IsInstallWork, IsUpdateWork};
+ghost use Rattle.composer_top.specs.Outcome.Lookup.{lookup_outcome};
+
+use autoload_build::plain_tables;
+use dump_command::dumped_projects;
+use install_packages::{commands_make_new_projects, installed_locks_are_met};
 
 /// What the words alone refuse is the one outcome over every tree.
 pub fn words_first()
     ensures outcome { (t : FileTree) (now : Meaning) (words : List (List ℕ)) (refusal : Refusal) → words_refusal words ≡ Some refusal → IsOutcome t now words (Err refusal) }
     ensures one { (t : FileTree) (now : Meaning) (words : List (List ℕ)) (refusal : Refusal) → words_refusal words ≡ Some refusal
-        → (answer : Result Report Refusal) → IsOutcome t now words answer → answer ≡ Err refusal }
+        → (answer : Result Reports Refusal) → IsOutcome t now words answer → answer ≡ Err refusal }
 {}
+
+/// Over a tree that is told, whatever is asked and whatever stands there, a run in which neither the tree nor `out` failed ends with
+/// an outcome of its command, or for want of memory with 10. Where nothing is to be refused, the command is done and its lines were
+/// taken; the status is 0 then, or 1 where `check` found something. A count of faults that stands at its end has no say.
+pub fn runs_are_complete()
+    ensures answered { (t : FileTree) (before now : Meaning) (words : List (List ℕ)) (outputs : Outputs) (status : ℕ) → HasRun t before now words outputs status
+        → NothingFailed before now outputs → (status ≡ 10) ⊎ ((outcome : Result Reports Refusal) × Replies t now words outputs status outcome) }
+    ensures unrefused { (t : FileTree) (before now : Meaning) (words : List (List ℕ)) (outputs : Outputs) (status : ℕ) → HasRun t before now words outputs status
+        → NothingFailed before now outputs → ((refusal : Refusal) → IsOutcome t now words (Err refusal) → ⊥)
+        → (status ≡ 10) ⊎ ((report : Reports) × Replies t now words outputs status (Ok report)) }
+    ensures statuses { (t : FileTree) (now : Meaning) (words : List (List ℕ)) (outputs : Outputs) (status : ℕ) (report : Reports)
+        → Replies t now words outputs status (Ok report) → IsStatusOf report.end status }
+{}
+
+/// Where the five table files of a project stand and no journal does, `lookup` opens for each word that names a class what these
+/// tables open.
+pub fn lookups_read_standing_tables()
+    ensures { (project : List (List ℕ)) (u : FileTree) (tables : Tables) → AreTablesStanding project u tables
+        → (word : List ℕ) → lookup_outcome u project word ≡ opened_in u tables word }
+{}
+
+/// After `install` or `update` that is done, also where its lines were not taken, each tree that a crash may leave has the new project:
+/// that of the packages of the lock that stood, or of a new plan of first choices with its lock. The five table files are read as
+/// the tables of these packages. Plain ones open for every class, whatever files there are, the first listed file that declares it,
+/// and else the first file to which the rows lead it, and `lookup` there says so. `check` there says that the lock, as it is read,
+/// meets every rule of composer.json. As for the command itself, each tree that a crash may leave at the start has the project and
+/// the surroundings of the one that is told, and no journal; and the tree with the claim is one, as each is that a device tells.
+pub fn installed_projects_look_up()
+    ensures install { (project : List (List ℕ)) (ways : Ways) (t u : FileTree) (before now : Meaning) (status : ℕ) → RunChanges (IsInstallWork project ways) project t before now status
+        → IsTrue (is_done status) → EachImage before (IsSteadily project t) → IsImage now.disks.now u → HasNewProject project ways t u }
+    ensures update { (project : List (List ℕ)) (ways : Ways) (t u : FileTree) (before now : Meaning) (status : ℕ) → RunChanges (IsUpdateWork project ways) project t before now status
+        → IsTrue (is_done status) → EachImage before (IsSteadily project t) → IsImage now.disks.now u → HasUpdated project ways t u }
+    ensures stand { (project : List (List ℕ)) (ways : Ways) (start u : FileTree) (new : HasNewProject project ways start u) → IsTree (with_claim project start)
+        → AreTablesStanding project u (tables_in new.made) }
+    ensures plain { (project : List (List ℕ)) (ways : Ways) (start u : FileTree) (new : HasNewProject project ways start u) → IsTree (with_claim project start)
+        → mode_of ways new.choice.0.root ≡ Plain → OpensByRows (project_in new.made) new.made.found u }
+    ensures check { (project : List (List ℕ)) (ways : Ways) (start u : FileTree) (new : HasNewProject project ways start u) → IsTree (with_claim project start)
+        → (current : Bool) × (check_outcome u project ≡ Ok (check_report current Meets)) }
+{
+    plain_tables();
+    commands_make_new_projects();
+    installed_locks_are_met();
+}
+
+/// After `dump-autoload` that is done, also where its lines were not taken, each tree that a crash may leave has the new tables of
+/// what stood; its five table files are read as these. Plain ones open for every class, whatever files there are, the first listed
+/// file that declares it, and else the first file to which the rows lead it, and `lookup` there says so. In the tree that is told
+/// afterwards each package and the project's own files stand as the walks for classes read them, as laws of optimised and
+/// authoritative tables ask for ([`dumped_class_maps`](dump_command::dumped_class_maps)). As for the command itself, each tree that
+/// a crash may leave at the start has the project and the surroundings of the one that is told, and no journal.
+pub fn dumped_projects_look_up()
+    ensures made { (project : List (List ℕ)) (ways : Ways) (t u : FileTree) (before now : Meaning) (status : ℕ) → RunChanges (IsDumpWork project ways) project t before now status
+        → IsTrue (is_done status) → EachImage before (IsSteadily project t) → IsImage now.disks.now u → HasNewTables project ways t u }
+    ensures stand { (project : List (List ℕ)) (ways : Ways) (start u : FileTree) (new : HasNewTables project ways start u)
+        → (built : NewTables) × AreNewTables (with_claim project start) (project_of project new.standing) new.standing.setting ENTRIES (Ok (built, new.after)) × AreTablesStanding project u built.tables }
+    ensures plain { (project : List (List ℕ)) (ways : Ways) (start u : FileTree) (new : HasNewTables project ways start u) → new.standing.setting.mode ≡ Plain
+        → (walked : Walked) × (found : List Scanned) × (walks_of (with_claim project start) (project_of project new.standing) Plain ENTRIES ≡ Ok walked) × AreScansOf walked.found found
+        × OpensByRows (project_of project new.standing) found u }
+    ensures shown { (project : List (List ℕ)) (ways : Ways) (t u : FileTree) (before now : Meaning) (status : ℕ) → RunChanges (IsDumpWork project ways) project t before now status
+        → IsTrue (is_done status) → EachImage before (IsSteadily project t) → IsImage now.disks.now u → now.told ≡ Some u → IsTree t → IsTree u → IsDumpedProject project ways ENTRIES t u }
+{
+    plain_tables();
+    dumped_projects();
+}

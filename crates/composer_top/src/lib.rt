@@ -11,7 +11,10 @@ mod report;
 mod runner;
 mod standing_tables;
 
-pub use laws::words_first;
+pub use laws::{
+    dumped_projects_look_up, installed_projects_look_up, lookups_read_standing_tables,
+    runs_are_complete, words_first,
+};
 pub use report::{Report, refuse};
 pub use run_answers::Refusal;
 pub use runner::run;

@@ -1,0 +1,27 @@
+use Rattle.path_name.specs.Orders.{bytes_are_equal}
+use Rattle.composer_top.proofs.DoneRuns.{commanded}
+use Rattle.composer_top.proofs.InstalledProjects.{checked, plain_opens, run_updated, tables_standing}
+use Rattle.composer_top.specs.Outcome.Install.{IsInstallWork}
+use Rattle.composer_top.proofs.laws.installed_projects_look_up.Goals as goal
+
+pub returns-clause-install : goal.returns-clause-install
+returns-clause-install c = λ project ways t u before now status run ended each image.
+    let did = commanded (IsInstallWork project ways) project t before now status run ended in
+    c.commands_make_new_projects.ensures.install project ways t u before now did.0 did.1 each image
+
+pub returns-clause-update : goal.returns-clause-update
+returns-clause-update c = run_updated
+
+pub returns-clause-stand : goal.returns-clause-stand
+returns-clause-stand c = tables_standing
+
+pub returns-clause-plain : goal.returns-clause-plain
+returns-clause-plain c = λ project ways start u new claimed. plain_opens project ways start u new claimed c.plain_tables.ensures
+
+pub returns-clause-check : goal.returns-clause-check
+returns-clause-check c = λ project ways start u new claimed.
+    let root = c.installed_locks_are_met.ensures.root project ways start u new in (
+      bytes_are_equal root.0.content_hash new.choice.0.lock.content_hash,
+      checked project u new.choice.0.root new.choice.0.lock root.0 root.1 (c.installed_locks_are_met.ensures.read project ways start u new claimed) root.2
+          (c.installed_locks_are_met.ensures.met project ways start u new),
+    )
