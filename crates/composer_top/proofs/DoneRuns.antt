@@ -33,6 +33,7 @@ module _ (IsMade : FileTree → ℕ → Result Work Refusal → Type 0) (project
       made = run.made;
       left = run.left;
       is_made = run.is_made;
+      held = run.held;
       told = (run.done ended).1;
       through = run.through;
       settled = run.settled ended;

@@ -7,7 +7,7 @@ pub mod Recover
 pub mod Change
 pub mod Dump
 pub mod Install
-use Rattle.std.specs.Prelude.{◌≡◌, ◌≢◌, ◌⊎◌, ◌≤◌, ℕ, nat_eq, List, [], ◌∷◌, ◌++◌, Bool, false, ◌||◌, IsTrue, Option, Some, None, Result, Ok, Err, MatchResult, IfErr, IfSome}
+use Rattle.std.specs.Prelude.{◌≡◌, ◌≢◌, ◌⊎◌, ◌≤◌, ℕ, nat_eq, List, [], ◌∷◌, ◌++◌, Bool, false, ◌||◌, IsTrue, Option, Some, None, Result, Ok, Err, MatchResult, IfErr, IfOk, IfSome}
 use Rattle.std.specs.FinMap as map
 use Rattle.path_name.specs.Given.{◌>>=◌}
 use Rattle.path_name.specs.Paths.{path_text}
@@ -212,6 +212,8 @@ pub record RunChanges (IsMade : FileTree → ℕ → Result Work Refusal → Typ
   pub left : ℕ
   -- what was made under the claim, unless the device failed or memory ran out
   pub is_made : claim_in t project ≡ Ok tt → TellsOne (λ work. work) (IsMade (with_claim project t) left) made
+  -- work is made under the claim alone
+  pub held : IfOk made (λ work. claim_in t project ≡ Ok tt)
   -- a run that is done had lines
   pub done : IsTrue (is_done status) → (lines : List ℕ) × (outcome_of_work project t left made ≡ Ok lines)
   pub through : EachImage before (IsSteadily project t) → Through before now (IsInFlight project t (file_at t) (files_made project t left made))

@@ -1,6 +1,6 @@
 -- A claim, a work that only reads, and its end, put together.
 use Rattle.std.proofs.Common.{◌≡◌, ℕ, Bool, false, List, Some, None, Result, Ok, Err, IsTrue, refl, sym, ap, subst, ◌∙◌, inl, inr, arith}
-use Rattle.std.specs.Prelude.{◌⊎◌, ◌≤◌, IfErr, IsErrAnd, OnOk}
+use Rattle.std.specs.Prelude.{◌⊎◌, ◌≤◌, IfErr, IfOk, IsErrAnd, OnOk}
 use Rattle.std.specs.FinMap as map
 use Rattle.std.proofs.lemmas.Bool.{false≢true}
 use Rattle.path_name.specs.Given.{◌>>=◌}
@@ -38,6 +38,10 @@ swap_err Q (Err e) f = λ other p. f p other
 claimed_and_not : {P : Type 0} (c : Result (Unit {0}) Refusal) (refusal : Refusal) → c ≡ Ok tt → c ≡ Err refusal → P
 claimed_and_not c refusal passes refuses = absurd (let both : ◌≡◌ {A = Result (Unit {0}) Refusal} (Ok tt) (Err refusal) = sym passes ∙ refuses in cc)
 
+if_made : (P : Type 0) (made : Result Work Refusal) → P → IfOk made (λ work. P)
+if_made P (Ok work) holds = holds
+if_made P (Err refusal) holds = tt
+
 -- ---- where the claim was refused
 
 module _ (IsMade : FileTree → ℕ → Result Work Refusal → Type 0) (project : List (List ℕ)) (t : FileTree) (a b : Meaning) (refusal : Refusal)
@@ -58,6 +62,7 @@ module _ (IsMade : FileTree → ℕ → Result Work Refusal → Type 0) (project
     made = Err refusals.OutOfMemory;
     left = 0;
     is_made = λ passes. inl refl;
+    held = tt;
     told = outcome told;
     through = λ each. steady_in_flight project t a b each steady (files_made project t 0 (Err refusals.OutOfMemory));
     settled = tt;
@@ -171,6 +176,7 @@ module _ (IsMade : FileTree → ℕ → Result Work Refusal → Type 0) (project
     made = made;
     left = left;
     is_made = λ passed. works (with_claim project t) told_b;
+    held = if_made (claim_in t project ≡ Ok tt) made passes;
     told = subst (λ (wanted : Result (List ℕ) Refusal). Tells (λ lines. lines) wanted result) (sym same_outcome) (tells_it (with_claim project t) told_d);
     through = move moves;
     settled = on_ok result settle settles;

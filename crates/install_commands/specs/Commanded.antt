@@ -1,5 +1,5 @@
 -- What a command does that changes a project under its claim: what it answers, and what becomes of the project.
-use Rattle.std.specs.Prelude.{◌≡◌, ◌≤◌, ℕ, List, false, None, Result, Ok, Err, IfErr, OnOk}
+use Rattle.std.specs.Prelude.{◌≡◌, ◌≤◌, ℕ, List, false, None, Result, Ok, Err, IfErr, IfOk, OnOk}
 use Rattle.std.specs.FinMap as map
 use Rattle.path_name.specs.Given.{◌>>=◌}
 use Rattle.tree_dev.specs.Trees.{FileTree}
@@ -31,6 +31,8 @@ pub record Commanded (IsMade : FileTree → ℕ → Result Work Refusal → Type
   pub left : ℕ
   -- what was made under the claim, unless the device failed or memory ran out
   pub is_made : claim_in t project ≡ Ok tt → TellsOne (λ work. work) (IsMade (with_claim project t) left) made
+  -- work is made under the claim alone
+  pub held : IfOk made (λ work. claim_in t project ≡ Ok tt)
   -- the lines, or the first refusal, unless the device failed or memory ran out
   pub told : Tells (λ lines. lines) (outcome_of_work project t left made) result
   -- at every moment of the run
