@@ -1,3 +1,5 @@
 mod crashes;
 mod installs;
+mod journals;
 mod projects;
+mod standing;
