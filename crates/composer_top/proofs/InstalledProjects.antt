@@ -1,17 +1,18 @@
 -- What stands of an install or an update, and what its tables and its lock say.
 use Rattle.std.proofs.Common.{◌≡◌, ℕ, Bool, true, List, [], ◌∷◌, Option, Some, None, Ok, IsTrue, refl, ap, subst, ◌∙◌, inr}
-use Rattle.std.specs.Prelude.{is_none}
+use Rattle.std.specs.Prelude.{◌||◌, is_none}
 use Rattle.std.specs.Option.{option_map_or}
 use Rattle.path_name.specs.Orders.{bytes_are_equal}
 use Rattle.tree_dev.specs.Device.{Meaning}
 use Rattle.tree_dev.specs.Disk.{IsImage}
-use Rattle.tree_dev.specs.Projects.{file_at}
+use Rattle.tree_dev.specs.Projects.{file_at, is_project_part, is_within, lock_path, vendor_path}
 use Rattle.tree_dev.specs.Steady.{EachImage, IsSteadily}
 use Rattle.tree_dev.specs.Trees.{FileTree, IsTree}
 use Rattle.tree_dev.specs.declared.limits.TheConstants.{ENTRIES}
 use Rattle.class_lookup.specs.Lookup.{lookup_in}
 use Rattle.class_paths.specs.Search.{search_file}
 use Rattle.class_walk.specs.declared.job.Scanned.{Scanned}
+use Rattle.install_world.specs.InFlight.{HasFiles}
 use Rattle.lock_file.specs.declared.types.Lock.{Lock}
 use Rattle.manifest_read.specs.declared.types.Manifest.{Manifest}
 use Rattle.plan_rules.specs.Validity.{first_broken}
@@ -37,12 +38,13 @@ use Rattle.table_files.specs.Readable.{texts_at}
 use Rattle.table_files.specs.Written.{files_checked}
 use Rattle.table_files.specs.declared.written.WrittenFile.{WrittenFile}
 use Rattle.install_packages.specs.InstallParts.{lock_file_of}
-use Rattle.install_packages.specs.Installations.{HasNewProject, project_in, tables_in}
+use Rattle.install_packages.specs.Installations.{HasNewProject, installed_files, project_in, tables_in}
 use Rattle.install_packages.proofs.DoneCommands.{done}
 use Rattle.install_packages.proofs.Unrolled.{update_unrolled}
 use Rattle.install_packages.proofs.InstalledTables.{file_same, stand}
-use Rattle.install_packages.proofs.ShownTrees.{setting}
-use Rattle.install_packages.proofs.StandingFiles.{printed_texts, there}
+use Rattle.install_packages.proofs.NewProjects.{new_project}
+use Rattle.install_packages.proofs.ShownTrees.{files_stand, itself_within, setting}
+use Rattle.install_packages.proofs.StandingFiles.{lock_stands, printed_texts, there}
 use Rattle.composer_top.specs.Opened.{AreTablesStanding, HasUpdated, OpensByRows}
 use Rattle.composer_top.specs.Outcome.{RunChanges, is_done}
 use Rattle.composer_top.specs.Outcome.Check.{check_outcome, check_report, compared, lock_compared}
@@ -98,6 +100,25 @@ module _ (project : List (List ℕ)) (ways : Ways) (start u : FileTree) (new : H
     plain_opens law plain =
         opens_by_rows party new.made.found u (tables_in new.made) tables_standing
         (λ is_file name. ap (λ (some : Mode). lookup_in (tables_of party some new.work.generation new.made.found) is_file name) plain ∙ law party new.work.generation new.made.found is_file name)
+
+-- ---- its files
+
+lock_in_project : (project : List (List ℕ)) → is_project_part project (lock_path project) ≡ true
+unfolding is_project_part
+lock_in_project project = ap (λ (within : Bool). within || is_within (vendor_path project) (lock_path project)) (itself_within (lock_path project))
+
+module _ (project : List (List ℕ)) (ways : Ways) (start u : FileTree) (new : HasNewProject project ways start u) (claimed : IsTree (with_claim project start)) where
+  pub new_files : HasFiles project u (installed_files project (with_claim project start) new.made.members new.made.files (file_at (with_claim project start)))
+  new_files = record {
+    each = λ path part.
+        (files_stand project ways start u new).each path part
+        ∙ new_project (with_claim project start) project new.choice.0 (setting project ways start u new) new.choice.1 new.after new.work new.made path claimed;
+  }
+
+  pub lock_text : (text : List ℕ) → new.choice.0.text ≡ Some text → file_at u (lock_path project) ≡ Some text
+  lock_text text written =
+      new_files.each (lock_path project) (lock_in_project project)
+      ∙ lock_stands (with_claim project start) project new.choice.0 (setting project ways start u new) new.choice.1 new.after new.work new.made (file_at (with_claim project start)) text written
 
 -- ---- what `check` says of it
 

@@ -9,3 +9,4 @@ pub mod StandingBuilt
 pub mod DoneRuns
 pub mod DumpedProjects
 pub mod InstalledProjects
+pub mod RunWrites

@@ -2,3 +2,4 @@ pub mod Chosen
 pub mod Outcome
 pub mod Completeness
 pub mod Opened
+pub mod Writing

@@ -1,6 +1,7 @@
 //! Laws of what commands answer, each as the contract of a function that does nothing.
 
 ghost use Rattle.std.specs.Prelude.{◌≡◌, ◌⊎◌, ℕ, List, Bool, IsTrue, Some, Result, Ok, Err};
+ghost use Rattle.tree_dev.specs.Projects.{file_at, lock_path};
 ghost use Rattle.tree_dev.specs.Trees.{FileTree, IsTree};
 ghost use Rattle.tree_dev.specs.Device.{Meaning};
 ghost use Rattle.tree_dev.specs.Disk.{IsImage};
@@ -14,16 +15,19 @@ ghost use Rattle.autoload_build.specs.Answers.{walks_of};
 ghost use Rattle.composer_words.specs.declared.chosen.Ways.{Ways};
 ghost use Rattle.table_files.specs.NewTables.{AreNewTables};
 ghost use Rattle.table_files.specs.declared.building.NewTables.{NewTables};
-ghost use Rattle.install_commands.specs.Claiming.{with_claim};
+ghost use Rattle.install_commands.specs.Claiming.{claim_in, with_claim};
+ghost use Rattle.install_commands.specs.declared.work.Work.{Work as Works};
+ghost use Rattle.install_world.specs.InFlight.{HasFiles};
 ghost use Rattle.dump_command.specs.DumpedProjects.{IsDumpedProject};
 ghost use Rattle.dump_command.specs.Standing.{project_of};
-ghost use Rattle.install_packages.specs.Installations.{HasNewProject, project_in, tables_in};
+ghost use Rattle.install_packages.specs.Installations.{HasNewProject, installed_files, project_in, tables_in};
 ghost use Rattle.plan_rules.specs.declared.rule.Verdict.TheVariants.{Meets};
 ghost use Rattle.table_files.specs.Modes.{mode_of};
 ghost use Rattle.run_answers.specs.declared.refusal.Refusal.{Refusal};
 ghost use Rattle.composer_top.specs.declared.report.Report.{Report as Reports};
 ghost use Rattle.composer_top.specs.Completeness.{HasRun, IsStatusOf, NothingFailed, Replies};
 ghost use Rattle.composer_top.specs.Opened.{AreTablesStanding, HasNewTables, HasUpdated, OpensByRows, opened_in};
+ghost use Rattle.composer_top.specs.Writing.{WritesFew};
 ghost use Rattle.composer_top.specs.Outcome.{IsOutcome, Outputs, RunChanges, is_done, words_refusal};
 ghost use Rattle.composer_top.specs.Outcome.Check.{check_outcome, check_report};
 ghost use Rattle.composer_top.specs.Outcome.Dump.{IsDumpWork};
@@ -32,7 +36,10 @@ ghost use Rattle.composer_top.specs.Outcome.Lookup.{lookup_outcome};
 
 use autoload_build::plain_tables;
 use dump_command::dumped_projects;
-use install_packages::{commands_make_new_projects, installed_locks_are_met};
+use install_packages::{
+    commands_install_what_they_choose, commands_make_new_projects, installations_write_few_files,
+    installed_locks_are_met,
+};
 
 /// What the words alone refuse is the one outcome over every tree.
 pub fn words_first()
@@ -76,12 +83,31 @@ pub fn installed_projects_look_up()
         → AreTablesStanding project u (tables_in new.made) }
     ensures plain { (project : List (List ℕ)) (ways : Ways) (start u : FileTree) (new : HasNewProject project ways start u) → IsTree (with_claim project start)
         → mode_of ways new.choice.0.root ≡ Plain → OpensByRows (project_in new.made) new.made.found u }
+    // Its files are exactly those of the packages, in their places, and the files that are written, and nothing else in `vendor`.
+    ensures files { (project : List (List ℕ)) (ways : Ways) (start u : FileTree) (new : HasNewProject project ways start u) → IsTree (with_claim project start)
+        → HasFiles project u (installed_files project (with_claim project start) new.made.members new.made.files (file_at (with_claim project start))) }
+    // A lock that is written stands with its text.
+    ensures lock { (project : List (List ℕ)) (ways : Ways) (start u : FileTree) (new : HasNewProject project ways start u) (text : List ℕ) → IsTree (with_claim project start)
+        → new.choice.0.text ≡ Some text → file_at u (lock_path project) ≡ Some text }
     ensures check { (project : List (List ℕ)) (ways : Ways) (start u : FileTree) (new : HasNewProject project ways start u) → IsTree (with_claim project start)
         → (current : Bool) × (check_outcome u project ≡ Ok (check_report current Meets)) }
 {
     plain_tables();
     commands_make_new_projects();
     installed_locks_are_met();
+}
+
+/// However `install` and `update` end, work that they made under their claim is an installation of the packages that they chose, and
+/// where nothing but folders stands at `vendor` and above targets, at most one call of `write` was made for each mirrored file of a
+/// package whose folder in `vendor` doesn't hold exactly that already, and nine more.
+pub fn installs_write_few_files()
+    ensures install { (project : List (List ℕ)) (ways : Ways) (t : FileTree) (before now : Meaning) (status : ℕ) (run : RunChanges (IsInstallWork project ways) project t before now status) (work : Works)
+        → claim_in t project ≡ Ok tt → run.made ≡ Ok work → WritesFew project ways t before now run.left work }
+    ensures update { (project : List (List ℕ)) (ways : Ways) (t : FileTree) (before now : Meaning) (status : ℕ) (run : RunChanges (IsUpdateWork project ways) project t before now status) (work : Works)
+        → claim_in t project ≡ Ok tt → run.made ≡ Ok work → WritesFew project ways t before now run.left work }
+{
+    commands_install_what_they_choose();
+    installations_write_few_files();
 }
 
 /// After `dump-autoload` that is done, also where its lines were not taken, each tree that a crash may leave has the new tables of

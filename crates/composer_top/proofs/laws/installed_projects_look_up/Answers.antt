@@ -1,6 +1,6 @@
 use Rattle.path_name.specs.Orders.{bytes_are_equal}
 use Rattle.composer_top.proofs.DoneRuns.{commanded}
-use Rattle.composer_top.proofs.InstalledProjects.{checked, plain_opens, run_updated, tables_standing}
+use Rattle.composer_top.proofs.InstalledProjects.{checked, lock_text, new_files, plain_opens, run_updated, tables_standing}
 use Rattle.composer_top.specs.Outcome.Install.{IsInstallWork}
 use Rattle.composer_top.proofs.laws.installed_projects_look_up.Goals as goal
 
@@ -17,6 +17,12 @@ returns-clause-stand c = tables_standing
 
 pub returns-clause-plain : goal.returns-clause-plain
 returns-clause-plain c = λ project ways start u new claimed. plain_opens project ways start u new claimed c.plain_tables.ensures
+
+pub returns-clause-files : goal.returns-clause-files
+returns-clause-files c = new_files
+
+pub returns-clause-lock : goal.returns-clause-lock
+returns-clause-lock c = λ project ways start u new text claimed written. lock_text project ways start u new claimed text written
 
 pub returns-clause-check : goal.returns-clause-check
 returns-clause-check c = λ project ways start u new claimed.
