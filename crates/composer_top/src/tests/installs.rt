@@ -426,9 +426,14 @@ fn refused_installs(rt: HostRuntime) -> Result<(), Fail> {
     Ok(())
 }
 
-/// Whether nothing is at `vendor`.
+/// Whether nothing is at a path.
+fn is_absent(alloc: Global, tree: &mut MemoryTree, at: &[u8]) -> Result<bool, Fail> {
+    Ok(tree.stat(&Path::read(alloc, at)?)? == Kind::Absent)
+}
+
+/// Whether nothing is at `vendor`, and no lock.
 fn is_uninstalled(alloc: Global, tree: &mut MemoryTree) -> Result<bool, Fail> {
-    Ok(tree.stat(&Path::read(alloc, b"vendor")?)? == Kind::Absent)
+    Ok(is_absent(alloc, tree, b"vendor")? && is_absent(alloc, tree, b"composer.lock")?)
 }
 
 #[test]
