@@ -10,3 +10,4 @@ pub mod DoneRuns
 pub mod DumpedProjects
 pub mod InstalledProjects
 pub mod RunWrites
+pub mod RecoveredRuns

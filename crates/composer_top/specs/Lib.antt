@@ -3,3 +3,4 @@ pub mod Outcome
 pub mod Completeness
 pub mod Opened
 pub mod Writing
+pub mod Recovered

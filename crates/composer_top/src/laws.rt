@@ -16,6 +16,7 @@ ghost use Rattle.composer_words.specs.declared.chosen.Ways.{Ways};
 ghost use Rattle.table_files.specs.NewTables.{AreNewTables};
 ghost use Rattle.table_files.specs.declared.building.NewTables.{NewTables};
 ghost use Rattle.install_commands.specs.Claiming.{claim_in, with_claim};
+ghost use Rattle.install_commands.specs.Commanded.{files_made};
 ghost use Rattle.install_commands.specs.declared.work.Work.{Work as Works};
 ghost use Rattle.install_world.specs.InFlight.{HasFiles};
 ghost use Rattle.dump_command.specs.DumpedProjects.{IsDumpedProject};
@@ -27,6 +28,7 @@ ghost use Rattle.run_answers.specs.declared.refusal.Refusal.{Refusal};
 ghost use Rattle.composer_top.specs.declared.report.Report.{Report as Reports};
 ghost use Rattle.composer_top.specs.Completeness.{HasRun, IsStatusOf, NothingFailed, Replies};
 ghost use Rattle.composer_top.specs.Opened.{AreTablesStanding, HasNewTables, HasUpdated, OpensByRows, opened_in};
+ghost use Rattle.composer_top.specs.Recovered.{IsOldOrNew, IsRecoveredFrom};
 ghost use Rattle.composer_top.specs.Writing.{WritesFew};
 ghost use Rattle.composer_top.specs.Outcome.{IsOutcome, Outputs, RunChanges, is_done, words_refusal};
 ghost use Rattle.composer_top.specs.Outcome.Check.{check_outcome, check_report};
@@ -40,6 +42,7 @@ use install_packages::{
     commands_install_what_they_choose, commands_make_new_projects, installations_write_few_files,
     installed_locks_are_met,
 };
+use install_world::what_is_in_flight_is_finished;
 
 /// What the words alone refuse is the one outcome over every tree.
 pub fn words_first()
@@ -129,4 +132,19 @@ pub fn dumped_projects_look_up()
 {
     plain_tables();
     dumped_projects();
+}
+
+/// A crash at any moment of `install`, `update` and `dump-autoload`, however these end, and then `recover` that is done, leave the
+/// project of before or the new one, whole, and the new one wherever a journal stood; all around it is as it was, and nothing is at
+/// `.install`. After the crash the device has the tree that it left, and that tree alone. As for the commands themselves, each tree
+/// that a crash may leave at the start has the project and the surroundings of the one that is told, and no journal.
+pub fn crashed_runs_are_recovered()
+    ensures install { (project : List (List ℕ)) (ways : Ways) (t left u : FileTree) (before now begun ended : Meaning) (status : ℕ) (run : RunChanges (IsInstallWork project ways) project t before now status)
+        → EachImage before (IsSteadily project t) → IsRecoveredFrom project before now begun ended left u → IsOldOrNew project t left u (file_at t) (files_made project t run.left run.made) }
+    ensures update { (project : List (List ℕ)) (ways : Ways) (t left u : FileTree) (before now begun ended : Meaning) (status : ℕ) (run : RunChanges (IsUpdateWork project ways) project t before now status)
+        → EachImage before (IsSteadily project t) → IsRecoveredFrom project before now begun ended left u → IsOldOrNew project t left u (file_at t) (files_made project t run.left run.made) }
+    ensures dump { (project : List (List ℕ)) (ways : Ways) (t left u : FileTree) (before now begun ended : Meaning) (status : ℕ) (run : RunChanges (IsDumpWork project ways) project t before now status)
+        → EachImage before (IsSteadily project t) → IsRecoveredFrom project before now begun ended left u → IsOldOrNew project t left u (file_at t) (files_made project t run.left run.made) }
+{
+    what_is_in_flight_is_finished();
 }
