@@ -2,14 +2,17 @@
 # Times `composer dump-autoload -o` over a project of many PHP files, the whole process, beside `cat` of the same files and,
 # where it is installed, Composer's own; and over twice as many files. Usage: bench/dump.sh [FILES], from anywhere, with the
 # kit's `rt`, python3 and, if they are there, php and composer on the PATH. FILES is 10,000 where it is not given, with
-# 4,300 bytes each. The program is built first, by bin/composer. Where MEASURE is set, it is a command that runs the
-# measurements, as `nice -n -5` does.
+# 4,300 bytes each. The program is built first, by bin/composer, unless PROGRAM names a built one. Where MEASURE is set, it is a
+# command that runs the measurements, as `nice -n -5` does.
 set -eu
 top=$(cd "$(dirname "$0")/.." && pwd)
 work=$(mktemp -d)
 trap 'rm -rf "$work"' EXIT
 cd "$work"
-"$top/bin/composer" files > /dev/null 2>&1 || [ $? -eq 14 ] || { echo 'the program is not built' >&2; exit 1; }
+if [ -z "${PROGRAM:-}" ]; then
+    "$top/bin/composer" files > /dev/null 2>&1 || [ $? -eq 14 ] || { echo 'the program is not built' >&2; exit 1; }
+    PROGRAM=$top/out/bin/composer
+fi
 cat > project.py <<'PY'
 # Makes a project of so many PHP files with a class each, 100 in a folder, of about 4,300 bytes.
 import os, sys
@@ -59,9 +62,9 @@ PY
 files=${1:-10000}
 python3 project.py one "$files"
 python3 project.py two $((2 * files))
-[ "$(cd one && "$top/out/bin/composer" dump-autoload -o)" = "classes $files
+[ "$(cd one && "$PROGRAM" dump-autoload -o)" = "classes $files
 generation 1" ]
 theirs=$(command -v composer || true)
 [ -z "$theirs" ] || cp -r one theirs
 sync
-COMPOSER_ALLOW_SUPERUSER=1 ${MEASURE:-} python3 times.py "$top/out/bin/composer" "$files" $theirs
+COMPOSER_ALLOW_SUPERUSER=1 ${MEASURE:-} python3 times.py "$PROGRAM" "$files" $theirs
