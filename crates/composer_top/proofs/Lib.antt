@@ -11,3 +11,4 @@ pub mod DumpedProjects
 pub mod InstalledProjects
 pub mod RunWrites
 pub mod RecoveredRuns
+pub mod AgreedLookups

@@ -1,6 +1,6 @@
 //! Laws of what commands answer, each as the contract of a function that does nothing.
 
-ghost use Rattle.std.specs.Prelude.{◌≡◌, ◌⊎◌, ℕ, List, Bool, IsTrue, Some, Result, Ok, Err};
+ghost use Rattle.std.specs.Prelude.{◌≡◌, ◌⊎◌, ◌++◌, ℕ, List, Bool, IsTrue, Some, Result, Ok, Err};
 ghost use Rattle.tree_dev.specs.Projects.{file_at, lock_path};
 ghost use Rattle.tree_dev.specs.Trees.{FileTree, IsTree};
 ghost use Rattle.tree_dev.specs.Device.{Meaning};
@@ -9,9 +9,12 @@ ghost use Rattle.tree_dev.specs.Steady.{EachImage, IsSteadily};
 ghost use Rattle.tree_dev.specs.declared.limits.TheConstants.{ENTRIES};
 ghost use Rattle.class_walk.specs.Walks.{AreScansOf, Walked};
 ghost use Rattle.class_walk.specs.declared.job.Scanned.{Scanned};
-ghost use Rattle.table_scan.specs.declared.types.Mode.TheVariants.{Plain};
+ghost use Rattle.table_scan.specs.declared.types.Mode.TheVariants.{Authoritative, Optimised, Plain};
 ghost use Rattle.table_scan.specs.declared.types.Tables.{Tables};
-ghost use Rattle.autoload_build.specs.Answers.{walks_of};
+ghost use Rattle.autoload_build.specs.Answers.{AreFound, walks_of};
+ghost use Rattle.autoload_build.specs.BuiltTables.{classes_of};
+ghost use Rattle.autoload_build.specs.ClassAgreement.{IsInScanReach, IsUnambiguous};
+ghost use Rattle.autoload_build.specs.Jobs.{rows};
 ghost use Rattle.composer_words.specs.declared.chosen.Ways.{Ways};
 ghost use Rattle.table_files.specs.NewTables.{AreNewTables};
 ghost use Rattle.table_files.specs.declared.building.NewTables.{NewTables};
@@ -27,20 +30,20 @@ ghost use Rattle.table_files.specs.Modes.{mode_of};
 ghost use Rattle.run_answers.specs.declared.refusal.Refusal.{Refusal};
 ghost use Rattle.composer_top.specs.declared.report.Report.{Report as Reports};
 ghost use Rattle.composer_top.specs.Completeness.{HasRun, IsStatusOf, NothingFailed, Replies};
-ghost use Rattle.composer_top.specs.Opened.{AreTablesStanding, HasNewTables, HasUpdated, OpensByRows, opened_in};
+ghost use Rattle.composer_top.specs.Opened.{AreTablesStanding, HasNewTables, HasUpdated, OpensByRows, opened_in, searched_in};
 ghost use Rattle.composer_top.specs.Recovered.{IsOldOrNew, IsRecoveredFrom};
 ghost use Rattle.composer_top.specs.Writing.{WritesFew};
 ghost use Rattle.composer_top.specs.Outcome.{IsOutcome, Outputs, RunChanges, is_done, words_refusal};
 ghost use Rattle.composer_top.specs.Outcome.Check.{check_outcome, check_report};
 ghost use Rattle.composer_top.specs.Outcome.Dump.{IsDumpWork};
 ghost use Rattle.composer_top.specs.Outcome.Install.{IsInstallWork, IsUpdateWork};
-ghost use Rattle.composer_top.specs.Outcome.Lookup.{lookup_outcome};
+ghost use Rattle.composer_top.specs.Outcome.Lookup.{lookup_outcome, named};
 
 use autoload_build::plain_tables;
 use dump_command::dumped_projects;
 use install_packages::{
     commands_install_what_they_choose, commands_make_new_projects, installations_write_few_files,
-    installed_locks_are_met,
+    installed_authoritative_tables, installed_locks_are_met, installed_optimised_tables,
 };
 use install_world::what_is_in_flight_is_finished;
 
@@ -98,6 +101,23 @@ pub fn installed_projects_look_up()
     plain_tables();
     commands_make_new_projects();
     installed_locks_are_met();
+}
+
+/// After `install` or `update` that is done, `lookup` opens with optimised tables, for each word that names an unambiguous class of the
+/// tree that is left, the first listed file that declares it, and else the first file to which the rows lead it; and so it does
+/// with authoritative ones, where the class is in reach of the scan.
+pub fn installed_class_maps_are_looked_up()
+    ensures optimised { (project : List (List ℕ)) (ways : Ways) (start u : FileTree) (new : HasNewProject project ways start u) (listed walked : List Scanned) (word name : List ℕ)
+        → mode_of ways new.choice.0.root ≡ Optimised → new.made.found ≡ listed ++ walked → AreFound (with_claim project start) (project_in new.made) new.choice.1 listed walked
+        → IsTree (with_claim project start) → IsTree u → named word ≡ Ok name → IsUnambiguous u (rows (project_in new.made)) (classes_of listed) name
+        → lookup_outcome u project word ≡ searched_in u (rows (project_in new.made)) (classes_of listed) word }
+    ensures authoritative { (project : List (List ℕ)) (ways : Ways) (start u : FileTree) (new : HasNewProject project ways start u) (listed walked : List Scanned) (word name : List ℕ)
+        → mode_of ways new.choice.0.root ≡ Authoritative → new.made.found ≡ listed ++ walked → AreFound (with_claim project start) (project_in new.made) new.choice.1 listed walked
+        → IsTree (with_claim project start) → IsTree u → named word ≡ Ok name → IsUnambiguous u (rows (project_in new.made)) (classes_of listed) name
+        → IsInScanReach u (project_in new.made) name → lookup_outcome u project word ≡ searched_in u (rows (project_in new.made)) (classes_of listed) word }
+{
+    installed_optimised_tables();
+    installed_authoritative_tables();
 }
 
 /// However `install` and `update` end, work that they made under their claim is an installation of the packages that they chose, and
