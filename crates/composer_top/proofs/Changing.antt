@@ -106,6 +106,7 @@ module _ (IsMade : FileTree → ℕ → Result Work Refusal → Type 0) (project
       left = did.left;
       is_made = did.is_made;
       held = did.held;
+      tree = did.tree;
       done = λ done. lines_when_ok (outcome_of_work project t did.left did.made) answer (done_is done) did.told;
       through = did.through;
       settled = λ done. when_ok (EachImage before (IsSteadily project t) → EachImage now (IsInstalled project t (files_made project t did.left did.made))) answer (done_is done) did.settled;

@@ -11,7 +11,7 @@ use Rattle.std.specs.Prelude.{◌≡◌, ◌≢◌, ◌⊎◌, ◌≤◌, ℕ, n
 use Rattle.std.specs.FinMap as map
 use Rattle.path_name.specs.Given.{◌>>=◌}
 use Rattle.path_name.specs.Paths.{path_text}
-use Rattle.tree_dev.specs.Trees.{FileTree}
+use Rattle.tree_dev.specs.Trees.{FileTree, IsTree}
 use Rattle.tree_dev.specs.Device.{Meaning, OfTold, OnlyRead, Rose}
 use Rattle.tree_dev.specs.Projects.{file_at, work_path}
 use Rattle.tree_dev.specs.Steady.{EachImage, IsSteadily, Through}
@@ -214,6 +214,8 @@ pub record RunChanges (IsMade : FileTree → ℕ → Result Work Refusal → Typ
   pub is_made : claim_in t project ≡ Ok tt → TellsOne (λ work. work) (IsMade (with_claim project t) left) made
   -- work is made under the claim alone
   pub held : IfOk made (λ work. claim_in t project ≡ Ok tt)
+  -- and the tree with it was told, which is one
+  pub tree : IfOk made (λ work. IsTree (with_claim project t))
   -- a run that is done had lines
   pub done : IsTrue (is_done status) → (lines : List ℕ) × (outcome_of_work project t left made ≡ Ok lines)
   pub through : EachImage before (IsSteadily project t) → Through before now (IsInFlight project t (file_at t) (files_made project t left made))

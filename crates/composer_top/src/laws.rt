@@ -79,12 +79,15 @@ pub fn lookups_read_standing_tables()
 /// the tables of these packages. Plain ones open for every class, whatever files there are, the first listed file that declares it,
 /// and else the first file to which the rows lead it, and `lookup` there says so. `check` there says that the lock, as it is read,
 /// meets every rule of composer.json. As for the command itself, each tree that a crash may leave at the start has the project and
-/// the surroundings of the one that is told, and no journal; and the tree with the claim is one, as each is that a device tells.
+/// the surroundings of the one that is told, and no journal.
 pub fn installed_projects_look_up()
     ensures install { (project : List (List ℕ)) (ways : Ways) (t u : FileTree) (before now : Meaning) (status : ℕ) → RunChanges (IsInstallWork project ways) project t before now status
         → IsTrue (is_done status) → EachImage before (IsSteadily project t) → IsImage now.disks.now u → HasNewProject project ways t u }
     ensures update { (project : List (List ℕ)) (ways : Ways) (t u : FileTree) (before now : Meaning) (status : ℕ) → RunChanges (IsUpdateWork project ways) project t before now status
         → IsTrue (is_done status) → EachImage before (IsSteadily project t) → IsImage now.disks.now u → HasUpdated project ways t u }
+    // The tree with the claim is one, as the clauses below ask for.
+    ensures tree { (project : List (List ℕ)) (ways : Ways) (t : FileTree) (before now : Meaning) (status : ℕ)
+        → RunChanges (IsInstallWork project ways) project t before now status ⊎ RunChanges (IsUpdateWork project ways) project t before now status → IsTrue (is_done status) → IsTree (with_claim project t) }
     ensures stand { (project : List (List ℕ)) (ways : Ways) (start u : FileTree) (new : HasNewProject project ways start u) → IsTree (with_claim project start)
         → AreTablesStanding project u (tables_in new.made) }
     ensures plain { (project : List (List ℕ)) (ways : Ways) (start u : FileTree) (new : HasNewProject project ways start u) → IsTree (with_claim project start)

@@ -4,7 +4,7 @@ use Rattle.std.specs.Prelude.{◌⊎◌, ◌≤◌, IfErr, IfOk, IsErrAnd, OnOk}
 use Rattle.std.specs.FinMap as map
 use Rattle.std.proofs.lemmas.Bool.{false≢true}
 use Rattle.path_name.specs.Given.{◌>>=◌}
-use Rattle.tree_dev.specs.Trees.{FileTree}
+use Rattle.tree_dev.specs.Trees.{FileTree, IsTree}
 use Rattle.tree_dev.specs.Device.{Meaning, OfTold, OnlyRead, Rose}
 use Rattle.tree_dev.specs.Projects.{file_at, work_path}
 use Rattle.tree_dev.specs.Steady.{EachImage, IsSteadily, Steady, Through}
@@ -63,6 +63,7 @@ module _ (IsMade : FileTree → ℕ → Result Work Refusal → Type 0) (project
     left = 0;
     is_made = λ passes. inl refl;
     held = tt;
+    tree = tt;
     told = outcome told;
     through = λ each. steady_in_flight project t a b each steady (files_made project t 0 (Err refusals.OutOfMemory));
     settled = tt;
@@ -123,7 +124,7 @@ rose_all a b d e made ab bd cause silent (inr rose) = rose_after a.faults d.faul
 
 module _ (IsMade : FileTree → ℕ → Result Work Refusal → Type 0) (project : List (List ℕ)) (t : FileTree) (a b d e : Meaning) (made : Result Work Refusal) (left : ℕ)
     (result : Result (List ℕ) Refusal) (told_a : a.told ≡ Some t) (passes : claim_in t project ≡ Ok tt) (tells : KeepsTelling a b) (claimed : OfTold b (λ u. u ≡ with_claim project t))
-    (steady : Steady project a b) (wrote : b.writes ≡ a.writes) (failed : Bool) (read : OnlyRead b d failed) where
+    (steady : Steady project a b) (wrote : b.writes ≡ a.writes) (trees : (u : FileTree) → b.told ≡ Some u → IsTree u) (failed : Bool) (read : OnlyRead b d failed) where
   told_b : b.told ≡ Some (with_claim project t)
   told_b =
       let still = told_still a b t tells told_a in
@@ -177,6 +178,7 @@ module _ (IsMade : FileTree → ℕ → Result Work Refusal → Type 0) (project
     left = left;
     is_made = λ passed. works (with_claim project t) told_b;
     held = if_made (claim_in t project ≡ Ok tt) made passes;
+    tree = if_made (IsTree (with_claim project t)) made (trees (with_claim project t) told_b);
     told = subst (λ (wanted : Result (List ℕ) Refusal). Tells (λ lines. lines) wanted result) (sym same_outcome) (tells_it (with_claim project t) told_d);
     through = move moves;
     settled = on_ok result settle settles;

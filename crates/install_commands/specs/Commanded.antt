@@ -2,7 +2,7 @@
 use Rattle.std.specs.Prelude.{◌≡◌, ◌≤◌, ℕ, List, false, None, Result, Ok, Err, IfErr, IfOk, OnOk}
 use Rattle.std.specs.FinMap as map
 use Rattle.path_name.specs.Given.{◌>>=◌}
-use Rattle.tree_dev.specs.Trees.{FileTree}
+use Rattle.tree_dev.specs.Trees.{FileTree, IsTree}
 use Rattle.tree_dev.specs.Device.{Meaning, OfTold}
 use Rattle.tree_dev.specs.Projects.{file_at, work_path}
 use Rattle.tree_dev.specs.Steady.{EachImage, IsSteadily, Through}
@@ -33,6 +33,8 @@ pub record Commanded (IsMade : FileTree → ℕ → Result Work Refusal → Type
   pub is_made : claim_in t project ≡ Ok tt → TellsOne (λ work. work) (IsMade (with_claim project t) left) made
   -- work is made under the claim alone
   pub held : IfOk made (λ work. claim_in t project ≡ Ok tt)
+  -- and the tree with it was told, which is one
+  pub tree : IfOk made (λ work. IsTree (with_claim project t))
   -- the lines, or the first refusal, unless the device failed or memory ran out
   pub told : Tells (λ lines. lines) (outcome_of_work project t left made) result
   -- at every moment of the run

@@ -1,7 +1,13 @@
+use Rattle.std.proofs.Common.{◌⊎◌, ℕ, List, IsTrue, inl, inr}
 use Rattle.path_name.specs.Orders.{bytes_are_equal}
-use Rattle.composer_top.proofs.DoneRuns.{commanded}
+use Rattle.tree_dev.specs.Device.{Meaning}
+use Rattle.tree_dev.specs.Trees.{FileTree, IsTree}
+use Rattle.composer_words.specs.declared.chosen.Ways.{Ways}
+use Rattle.install_commands.specs.Claiming.{with_claim}
+use Rattle.composer_top.specs.Outcome.{RunChanges, is_done}
+use Rattle.composer_top.proofs.DoneRuns.{claimed_tree, commanded}
 use Rattle.composer_top.proofs.InstalledProjects.{checked, lock_text, new_files, plain_opens, run_updated, tables_standing}
-use Rattle.composer_top.specs.Outcome.Install.{IsInstallWork}
+use Rattle.composer_top.specs.Outcome.Install.{IsInstallWork, IsUpdateWork}
 use Rattle.composer_top.proofs.laws.installed_projects_look_up.Goals as goal
 
 pub returns-clause-install : goal.returns-clause-install
@@ -11,6 +17,14 @@ returns-clause-install c = λ project ways t u before now status run ended each 
 
 pub returns-clause-update : goal.returns-clause-update
 returns-clause-update c = run_updated
+
+pub returns-clause-tree : goal.returns-clause-tree
+returns-clause-tree c = λ project ways t before now status run ended. by project ways t before now status ended run
+  where
+    by : (project : List (List ℕ)) (ways : Ways) (t : FileTree) (before now : Meaning) (status : ℕ) → IsTrue (is_done status)
+        → RunChanges (IsInstallWork project ways) project t before now status ⊎ RunChanges (IsUpdateWork project ways) project t before now status → IsTree (with_claim project t)
+    by project ways t before now status ended (inl run) = claimed_tree (IsInstallWork project ways) project t before now status run ended
+    by project ways t before now status ended (inr run) = claimed_tree (IsUpdateWork project ways) project t before now status run ended
 
 pub returns-clause-stand : goal.returns-clause-stand
 returns-clause-stand c = tables_standing
