@@ -13,6 +13,7 @@ use Rattle.class_walk.specs.declared.job.Scanned.{Scanned}
 use Rattle.table_print.specs.TablePrinting.{printed}
 use Rattle.table_scan.specs.declared.types.Mode.{Mode}
 use Rattle.table_scan.specs.declared.types.Mode.TheVariants.{Plain}
+use Rattle.table_scan.specs.declared.types.TableFault.{TableFault}
 use Rattle.table_scan.specs.declared.types.Tables.{Tables}
 use Rattle.autoload_build.specs.Answers.{walks_of}
 use Rattle.autoload_build.specs.BuiltTables.{classes_of, tables_of}
@@ -26,6 +27,7 @@ use Rattle.table_files.specs.NewTables.{AreNewTables}
 use Rattle.table_files.specs.Readable.{texts_at}
 use Rattle.table_files.specs.Written.{AreReadBack, files_checked, parts_in, parts_of, written_files}
 use Rattle.table_files.specs.declared.building.NewTables.{NewTables}
+use Rattle.dump_command.specs.DumpedProjects.{IsDumpedProject}
 use Rattle.dump_command.specs.Dumping.{IsDumped, IsWorkFrom, installed_text, tables_work}
 use Rattle.dump_command.specs.Standing.{project_of, standing_in}
 use Rattle.dump_command.specs.declared.standing.Standing.{Standing}
@@ -109,3 +111,14 @@ module _ (project : List (List ℕ)) (ways : Ways) (start u : FileTree) (new : H
             (λ is_file name.
             ap (λ (tables : Tables). lookup_in tables is_file name) (b.4 ∙ ap (λ (mode : Mode). tables_of party mode it.0.generation b.1) plain) ∙ law party it.0.generation b.1 is_file name),
       )
+
+-- ---- the tables that a dump's own law speaks of are these
+
+pub dumped_stand : (project : List (List ℕ)) (ways : Ways) (start u : FileTree) → HasNewTables project ways start u → (dumped : IsDumpedProject project ways ENTRIES start u)
+    → AreTablesStanding project u dumped.new.tables
+dumped_stand project ways start u new dumped =
+    let it = tables_stand project ways start u new in
+    subst (AreTablesStanding project u) (same it.0.tables dumped.new.tables (sym it.2.read ∙ dumped.read)) it.2
+  where
+    same : (one other : Tables) → ◌≡◌ {A = Result Tables TableFault} (Ok one) (Ok other) → one ≡ other
+    same one other e = cc

@@ -22,6 +22,7 @@ ghost use Rattle.install_commands.specs.Claiming.{claim_in, with_claim};
 ghost use Rattle.install_commands.specs.Commanded.{files_made};
 ghost use Rattle.install_commands.specs.declared.work.Work.{Work as Works};
 ghost use Rattle.install_world.specs.InFlight.{HasFiles};
+ghost use Rattle.dump_command.specs.ClassMaps.{OpenAuthoritative, OpenOptimised};
 ghost use Rattle.dump_command.specs.DumpedProjects.{IsDumpedProject};
 ghost use Rattle.dump_command.specs.Standing.{project_of};
 ghost use Rattle.install_packages.specs.Installations.{HasNewProject, installed_files, project_in, tables_in};
@@ -40,7 +41,7 @@ ghost use Rattle.composer_top.specs.Outcome.Install.{IsInstallWork, IsUpdateWork
 ghost use Rattle.composer_top.specs.Outcome.Lookup.{lookup_outcome, named};
 
 use autoload_build::plain_tables;
-use dump_command::dumped_projects;
+use dump_command::{dumped_class_maps, dumped_projects};
 use install_packages::{
     commands_install_what_they_choose, commands_make_new_projects, installations_write_few_files,
     installed_authoritative_tables, installed_locks_are_met, installed_optimised_tables,
@@ -150,11 +151,31 @@ pub fn dumped_projects_look_up()
     ensures plain { (project : List (List ℕ)) (ways : Ways) (start u : FileTree) (new : HasNewTables project ways start u) → new.standing.setting.mode ≡ Plain
         → (walked : Walked) × (found : List Scanned) × (walks_of (with_claim project start) (project_of project new.standing) Plain ENTRIES ≡ Ok walked) × AreScansOf walked.found found
         × OpensByRows (project_of project new.standing) found u }
+    // The tree with the claim is one, as the laws of class maps ask for.
+    ensures tree { (project : List (List ℕ)) (ways : Ways) (t : FileTree) (before now : Meaning) (status : ℕ) → RunChanges (IsDumpWork project ways) project t before now status
+        → IsTrue (is_done status) → IsTree (with_claim project t) }
     ensures shown { (project : List (List ℕ)) (ways : Ways) (t u : FileTree) (before now : Meaning) (status : ℕ) → RunChanges (IsDumpWork project ways) project t before now status
         → IsTrue (is_done status) → EachImage before (IsSteadily project t) → IsImage now.disks.now u → now.told ≡ Some u → IsTree t → IsTree u → IsDumpedProject project ways ENTRIES t u }
 {
     plain_tables();
     dumped_projects();
+}
+
+/// After `dump-autoload` that is done, `lookup` opens with optimised tables, for each word that names an unambiguous class of the tree
+/// that is left, the first listed file that declares it, and else the first file to which the rows lead it; and so it does with
+/// authoritative ones, where the class is in reach of the scan.
+pub fn dumped_class_maps_are_looked_up()
+    ensures optimised { (project : List (List ℕ)) (ways : Ways) (start u : FileTree) → HasNewTables project ways start u → (dumped : IsDumpedProject project ways ENTRIES start u) → dumped.standing.setting.mode ≡ Optimised
+        → (maps : OpenOptimised (with_claim project start) (project_of project dumped.standing) ENTRIES dumped.new.tables) × ((word name : List ℕ) → named word ≡ Ok name
+        → IsUnambiguous u (rows (project_of project dumped.standing)) (classes_of maps.listed) name
+        → lookup_outcome u project word ≡ searched_in u (rows (project_of project dumped.standing)) (classes_of maps.listed) word) }
+    ensures authoritative { (project : List (List ℕ)) (ways : Ways) (start u : FileTree) → HasNewTables project ways start u → (dumped : IsDumpedProject project ways ENTRIES start u) → dumped.standing.setting.mode ≡ Authoritative
+        → IsTree (with_claim project start)
+        → (maps : OpenAuthoritative (with_claim project start) (project_of project dumped.standing) ENTRIES dumped.new.tables) × ((word name : List ℕ) → named word ≡ Ok name
+        → IsUnambiguous u (rows (project_of project dumped.standing)) (classes_of maps.listed) name → IsInScanReach u (project_of project dumped.standing) name
+        → lookup_outcome u project word ≡ searched_in u (rows (project_of project dumped.standing)) (classes_of maps.listed) word) }
+{
+    dumped_class_maps();
 }
 
 /// A crash at any moment of `install`, `update` and `dump-autoload`, however these end, and then `recover` that is done, leave the
