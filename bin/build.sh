@@ -79,7 +79,7 @@ build() {
 prove() {
     rm -f "$built/composer" "$built/started" "$built/listed" "$built/contents" "$built/log"
     command -v rt >/dev/null 2>&1 || not_built 69 'the Rattle kit is needed, with its command rt on the PATH'
-    echo 'composer: proving and building, which takes some minutes the first time' >&2
+    echo 'composer: proving and building, which takes some two hours of one processor the first time, and less on several' >&2
     program=$top/crates/composer_cmd/out/composer_cmd
     rm -f "$program"
     # Without words the program ends with its usage, so its status says nothing here.
