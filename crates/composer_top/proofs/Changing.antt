@@ -111,6 +111,8 @@ module _ (IsMade : FileTree → ℕ → Result Work Refusal → Type 0) (project
       through = did.through;
       settled = λ done. when_ok (EachImage before (IsSteadily project t) → EachImage now (IsInstalled project t (files_made project t did.left did.made))) answer (done_is done) did.settled;
       refused = λ refused. when_refused (EachImage before (IsSteadily project t) → EachImage now (IsInstalled project t (file_at t))) answer (refused_is refused) did.refused;
+      new_stands = λ done. when_ok (OfTold now (IsInstalled project t (files_made project t did.left did.made))) answer (done_is done) did.new_stands;
+      old_stands = λ passes refused. when_refused (OfTold now (IsInstalled project t (file_at t))) answer (refused_is refused) (did.old_stands passes);
       released = λ passes other. did.released passes (free_lines answer (free_is other));
       unclaimed = λ refusal refuses other. did.unclaimed refusal refuses (free_lines answer (free_is other));
       writes = did.writes;

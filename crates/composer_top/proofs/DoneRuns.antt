@@ -39,6 +39,8 @@ module _ (IsMade : FileTree → ℕ → Result Work Refusal → Type 0) (project
       through = run.through;
       settled = run.settled ended;
       refused = tt;
+      new_stands = run.new_stands ended;
+      old_stands = λ passes. tt;
       released = λ passes other. run.released passes (not_free status ended);
       unclaimed = λ refusal refuses other. run.unclaimed refusal refuses (not_free status ended);
       writes = run.writes;

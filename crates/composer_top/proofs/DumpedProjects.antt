@@ -1,9 +1,7 @@
 -- What stands of a dump, and what its tables open.
 use Rattle.std.proofs.Common.{◌≡◌, ℕ, Bool, List, [], Result, Ok, Err, IsTrue, refl, sym, ap, subst, ◌∙◌}
 use Rattle.tree_dev.specs.Device.{Meaning}
-use Rattle.tree_dev.specs.Disk.{IsImage}
 use Rattle.tree_dev.specs.Projects.{file_at}
-use Rattle.tree_dev.specs.Steady.{EachImage, IsSteadily}
 use Rattle.tree_dev.specs.Trees.{FileTree}
 use Rattle.tree_dev.specs.declared.limits.TheConstants.{ENTRIES}
 use Rattle.class_lookup.specs.Lookup.{lookup_in}
@@ -22,6 +20,7 @@ use Rattle.composer_words.specs.declared.chosen.Ways.{Ways}
 use Rattle.run_answers.specs.declared.refusal.Refusal.{Refusal}
 use Rattle.install_choice.proofs.Steps.{both_ok}
 use Rattle.install_commands.specs.Claiming.{with_claim}
+use Rattle.install_commands.specs.Commanded.{IsLeft}
 use Rattle.install_commands.specs.declared.work.Work.{Work}
 use Rattle.table_files.specs.NewTables.{AreNewTables}
 use Rattle.table_files.specs.Readable.{texts_at}
@@ -54,10 +53,10 @@ module _ (project : List (List ℕ)) (ways : Ways) (start u : FileTree) (end : I
   new_tables = from (standing_in (with_claim project start) project ways) refl end.is_made
 
 pub dumped : (project : List (List ℕ)) (ways : Ways) (t u : FileTree) (before now : Meaning) (status : ℕ) → RunChanges (IsDumpWork project ways) project t before now status → IsTrue (is_done status)
-    → EachImage before (IsSteadily project t) → IsImage now.disks.now u → HasNewTables project ways t u
-dumped project ways t u before now status run ended each image =
+    → IsLeft project t before now u → HasNewTables project ways t u
+dumped project ways t u before now status run ended is_left =
     let did = commanded (IsDumpWork project ways) project t before now status run ended in
-    new_tables project ways t u (done (IsDumpWork project ways) project t u before now did.0 did.1 each image)
+    new_tables project ways t u (done (IsDumpWork project ways) project t u before now did.0 did.1 is_left)
 
 -- ---- its tables
 

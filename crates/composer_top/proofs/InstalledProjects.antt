@@ -4,9 +4,7 @@ use Rattle.std.specs.Prelude.{◌||◌, is_none}
 use Rattle.std.specs.Option.{option_map_or}
 use Rattle.path_name.specs.Orders.{bytes_are_equal}
 use Rattle.tree_dev.specs.Device.{Meaning}
-use Rattle.tree_dev.specs.Disk.{IsImage}
 use Rattle.tree_dev.specs.Projects.{file_at, is_project_part, is_within, lock_path, vendor_path}
-use Rattle.tree_dev.specs.Steady.{EachImage, IsSteadily}
 use Rattle.tree_dev.specs.Trees.{FileTree, IsTree}
 use Rattle.tree_dev.specs.declared.limits.TheConstants.{ENTRIES}
 use Rattle.class_lookup.specs.Lookup.{lookup_in}
@@ -33,6 +31,7 @@ use Rattle.install_sources.specs.Verdicts.{whole}
 use Rattle.install_choice.specs.LockLaws.{IsMet}
 use Rattle.install_choice.proofs.Updates.{update_locks}
 use Rattle.install_commands.specs.Claiming.{with_claim}
+use Rattle.install_commands.specs.Commanded.{IsLeft}
 use Rattle.table_files.specs.Modes.{mode_of}
 use Rattle.table_files.specs.Readable.{texts_at}
 use Rattle.table_files.specs.Written.{files_checked}
@@ -56,10 +55,10 @@ use Rattle.composer_top.proofs.StandingBuilt.{built_stand, opens_by_rows}
 
 module _ (project : List (List ℕ)) (ways : Ways) (t u : FileTree) (before now : Meaning) (status : ℕ) where
   -- what it chose is new
-  pub run_updated : RunChanges (IsUpdateWork project ways) project t before now status → IsTrue (is_done status) → EachImage before (IsSteadily project t) → IsImage now.disks.now u → HasUpdated project ways t u
-  run_updated run ended each image =
+  pub run_updated : RunChanges (IsUpdateWork project ways) project t before now status → IsTrue (is_done status) → IsLeft project t before now u → HasUpdated project ways t u
+  run_updated run ended is_left =
       let did = commanded (IsUpdateWork project ways) project t before now status run ended in
-      let end = done (IsUpdateWork project ways) project t u before now did.0 did.1 each image in
+      let end = done (IsUpdateWork project ways) project t u before now did.0 did.1 is_left in
       let steps = update_unrolled project ways ENTRIES end.after (with_claim project t) end.work end.is_made in
       record {
         new = record { folder = end.folder; unclaimed = end.unclaimed; choice = steps.0; is_chosen = inr steps.1; after = end.after; work = end.work; made = steps.2; stands = end.stands };

@@ -221,6 +221,9 @@ pub record RunChanges (IsMade : FileTree → ℕ → Result Work Refusal → Typ
   pub through : EachImage before (IsSteadily project t) → Through before now (IsInFlight project t (file_at t) (files_made project t left made))
   pub settled : IsTrue (is_done status) → EachImage before (IsSteadily project t) → EachImage now (IsInstalled project t (files_made project t left made))
   pub refused : is_unrefused status ≡ false → EachImage before (IsSteadily project t) → EachImage now (IsInstalled project t (file_at t))
+  -- In the tree that is told they stand so whatever a crash may leave at the start.
+  pub new_stands : IsTrue (is_done status) → OfTold now (IsInstalled project t (files_made project t left made))
+  pub old_stands : claim_in t project ≡ Ok tt → is_unrefused status ≡ false → OfTold now (IsInstalled project t (file_at t))
   -- the claim is gone where there was one, and nothing was changed where there was none
   pub released : claim_in t project ≡ Ok tt → is_free_status status ≡ false → OfTold now (λ u. map.get u (work_path project) ≡ None)
   pub unclaimed : (refusal : Refusal) → claim_in t project ≡ Err refusal → is_free_status status ≡ false → now.told ≡ before.told

@@ -4,7 +4,6 @@ ghost use Rattle.std.specs.Prelude.{◌≡◌, ◌⊎◌, ◌++◌, ℕ, List, B
 ghost use Rattle.tree_dev.specs.Projects.{file_at, lock_path};
 ghost use Rattle.tree_dev.specs.Trees.{FileTree, IsTree};
 ghost use Rattle.tree_dev.specs.Device.{Meaning};
-ghost use Rattle.tree_dev.specs.Disk.{IsImage};
 ghost use Rattle.tree_dev.specs.Steady.{EachImage, IsSteadily};
 ghost use Rattle.tree_dev.specs.declared.limits.TheConstants.{ENTRIES};
 ghost use Rattle.class_walk.specs.Walks.{AreScansOf, Walked};
@@ -19,7 +18,7 @@ ghost use Rattle.composer_words.specs.declared.chosen.Ways.{Ways};
 ghost use Rattle.table_files.specs.NewTables.{AreNewTables};
 ghost use Rattle.table_files.specs.declared.building.NewTables.{NewTables};
 ghost use Rattle.install_commands.specs.Claiming.{claim_in, with_claim};
-ghost use Rattle.install_commands.specs.Commanded.{files_made};
+ghost use Rattle.install_commands.specs.Commanded.{IsLeft, files_made};
 ghost use Rattle.install_commands.specs.declared.work.Work.{Work as Works};
 ghost use Rattle.install_world.specs.InFlight.{HasFiles};
 ghost use Rattle.dump_command.specs.ClassMaps.{OpenAuthoritative, OpenOptimised};
@@ -75,17 +74,17 @@ pub fn lookups_read_standing_tables()
         → (word : List ℕ) → lookup_outcome u project word ≡ opened_in u tables word }
 {}
 
-/// After `install` or `update` that is done, also where its lines were not taken, each tree that a crash may leave has the new project:
-/// that of the packages of the lock that stood, or of a new plan of first choices with its lock. The five table files are read as
-/// the tables of these packages. Plain ones open for every class, whatever files there are, the first listed file that declares it,
-/// and else the first file to which the rows lead it, and `lookup` there says so. `check` there says that the lock, as it is read,
-/// meets every rule of composer.json. As for the command itself, each tree that a crash may leave at the start has the project and
-/// the surroundings of the one that is told, and no journal.
+/// After `install` or `update` that is done, also where its lines were not taken, the tree that is told has the new project: that of
+/// the packages of the lock that stood, or of a new plan of first choices with its lock. So has each tree that a crash may leave
+/// then, where each that a crash might leave at the start had the project and the surroundings of the one that was told, and no
+/// journal. The five table files are read as the tables of these packages. Plain ones open for every class, whatever files there
+/// are, the first listed file that declares it, and else the first file to which the rows lead it, and `lookup` there says so.
+/// `check` there says that the lock, as it is read, meets every rule of composer.json.
 pub fn installed_projects_look_up()
     ensures install { (project : List (List ℕ)) (ways : Ways) (t u : FileTree) (before now : Meaning) (status : ℕ) → RunChanges (IsInstallWork project ways) project t before now status
-        → IsTrue (is_done status) → EachImage before (IsSteadily project t) → IsImage now.disks.now u → HasNewProject project ways t u }
+        → IsTrue (is_done status) → IsLeft project t before now u → HasNewProject project ways t u }
     ensures update { (project : List (List ℕ)) (ways : Ways) (t u : FileTree) (before now : Meaning) (status : ℕ) → RunChanges (IsUpdateWork project ways) project t before now status
-        → IsTrue (is_done status) → EachImage before (IsSteadily project t) → IsImage now.disks.now u → HasUpdated project ways t u }
+        → IsTrue (is_done status) → IsLeft project t before now u → HasUpdated project ways t u }
     // The tree with the claim is one, as the clauses below ask for.
     ensures tree { (project : List (List ℕ)) (ways : Ways) (t : FileTree) (before now : Meaning) (status : ℕ)
         → RunChanges (IsInstallWork project ways) project t before now status ⊎ RunChanges (IsUpdateWork project ways) project t before now status → IsTrue (is_done status) → IsTree (with_claim project t) }
@@ -137,15 +136,15 @@ pub fn installs_write_few_files()
     installations_write_few_files();
 }
 
-/// After `dump-autoload` that is done, also where its lines were not taken, each tree that a crash may leave has the new tables of
-/// what stood; its five table files are read as these. Plain ones open for every class, whatever files there are, the first listed
+/// After `dump-autoload` that is done, also where its lines were not taken, the tree that is told has the new tables of what stood, and
+/// so has each that a crash may leave then, where each that a crash might leave at the start had the project and the surroundings
+/// of the one that was told, and no journal; its five table files are read as these. Plain ones open for every class, whatever files there are, the first listed
 /// file that declares it, and else the first file to which the rows lead it, and `lookup` there says so. In the tree that is told
 /// afterwards each package and the project's own files stand as the walks for classes read them, as laws of optimised and
-/// authoritative tables ask for ([`dumped_class_maps`](dump_command::dumped_class_maps)). As for the command itself, each tree that
-/// a crash may leave at the start has the project and the surroundings of the one that is told, and no journal.
+/// authoritative tables ask for ([`dumped_class_maps`](dump_command::dumped_class_maps)).
 pub fn dumped_projects_look_up()
     ensures made { (project : List (List ℕ)) (ways : Ways) (t u : FileTree) (before now : Meaning) (status : ℕ) → RunChanges (IsDumpWork project ways) project t before now status
-        → IsTrue (is_done status) → EachImage before (IsSteadily project t) → IsImage now.disks.now u → HasNewTables project ways t u }
+        → IsTrue (is_done status) → IsLeft project t before now u → HasNewTables project ways t u }
     ensures stand { (project : List (List ℕ)) (ways : Ways) (start u : FileTree) (new : HasNewTables project ways start u)
         → (built : NewTables) × AreNewTables (with_claim project start) (project_of project new.standing) new.standing.setting ENTRIES (Ok (built, new.after)) × AreTablesStanding project u built.tables }
     ensures plain { (project : List (List ℕ)) (ways : Ways) (start u : FileTree) (new : HasNewTables project ways start u) → new.standing.setting.mode ≡ Plain
@@ -155,7 +154,7 @@ pub fn dumped_projects_look_up()
     ensures tree { (project : List (List ℕ)) (ways : Ways) (t : FileTree) (before now : Meaning) (status : ℕ) → RunChanges (IsDumpWork project ways) project t before now status
         → IsTrue (is_done status) → IsTree (with_claim project t) }
     ensures shown { (project : List (List ℕ)) (ways : Ways) (t u : FileTree) (before now : Meaning) (status : ℕ) → RunChanges (IsDumpWork project ways) project t before now status
-        → IsTrue (is_done status) → EachImage before (IsSteadily project t) → IsImage now.disks.now u → now.told ≡ Some u → IsTree t → IsTree u → IsDumpedProject project ways ENTRIES t u }
+        → IsTrue (is_done status) → now.told ≡ Some u → IsTree t → IsTree u → IsDumpedProject project ways ENTRIES t u }
 {
     plain_tables();
     dumped_projects();

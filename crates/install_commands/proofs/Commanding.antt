@@ -12,7 +12,7 @@ use Rattle.tree_dev.proofs.SteadyRules.{steady_on, steady_same}
 use Rattle.tree_dev.proofs.Stretches.{through_ends, through_on}
 use Rattle.install_world.specs.InFlight.{IsInFlight}
 use Rattle.install_world.proofs.PartDone.{told_still}
-use Rattle.stage_job.specs.Staged.{KeepsTelling}
+use Rattle.stage_job.specs.Staged.{IsClaimed, KeepsTelling}
 use Rattle.stage_job.specs.Written.{after_more}
 use Rattle.run_answers.specs.Faults.{is_device_fault, is_free, is_of_device}
 use Rattle.run_answers.specs.declared.refusal.NamedFile.TheVariants as files
@@ -25,6 +25,7 @@ use Rattle.install_commands.specs.Working.{IsInstalled, files_after, worked_in, 
 use Rattle.install_commands.specs.declared.work.Work.{Work}
 use Rattle.install_commands.proofs.Faults.{rose_after}
 use Rattle.install_commands.proofs.Flights.{steady_in_flight, steady_stays}
+use Rattle.install_commands.proofs.ToldEnds.{claimed_steadily}
 use Rattle.install_commands.proofs.WriteCounts.{none_written}
 
 on_ok : {P Q : Type 0} (r : Result (List ℕ) Refusal) → (P → Q) → OnOk r P → OnOk r Q
@@ -68,6 +69,8 @@ module _ (IsMade : FileTree → ℕ → Result Work Refusal → Type 0) (project
     through = λ each. steady_in_flight project t a b each steady (files_made project t 0 (Err refusals.OutOfMemory));
     settled = tt;
     refused = λ other each. steady_stays project t a b each steady;
+    new_stands = tt;
+    old_stands = λ passes other. claimed_and_not (claim_in t project) refusal passes (refuses other);
     released = λ passes other. claimed_and_not (claim_in t project) refusal passes (refuses other);
     unclaimed = λ why is other. same other;
     writes = none_written a.writes b.writes 0 wrote;
@@ -124,7 +127,7 @@ rose_all a b d e made ab bd cause silent (inr rose) = rose_after a.faults d.faul
 
 module _ (IsMade : FileTree → ℕ → Result Work Refusal → Type 0) (project : List (List ℕ)) (t : FileTree) (a b d e : Meaning) (made : Result Work Refusal) (left : ℕ)
     (result : Result (List ℕ) Refusal) (told_a : a.told ≡ Some t) (passes : claim_in t project ≡ Ok tt) (tells : KeepsTelling a b) (claimed : OfTold b (λ u. u ≡ with_claim project t))
-    (steady : Steady project a b) (wrote : b.writes ≡ a.writes) (trees : (u : FileTree) → b.told ≡ Some u → IsTree u) (failed : Bool) (read : OnlyRead b d failed) where
+    (steady : Steady project a b) (wrote : b.writes ≡ a.writes) (trees : (u : FileTree) → b.told ≡ Some u → IsTree u) (ready : OfTold b (IsClaimed project)) (failed : Bool) (read : OnlyRead b d failed) where
   told_b : b.told ≡ Some (with_claim project t)
   told_b =
       let still = told_still a b t tells told_a in
@@ -154,6 +157,12 @@ module _ (IsMade : FileTree → ℕ → Result Work Refusal → Type 0) (project
   abbrev Stays : List (List ℕ) → Type 0
   Stays held = OfTold d (λ u. (start : FileTree) → EachImage d (IsSteadily held start) → IfErr result (λ refusal. is_free refusal ≡ false → EachImage e (IsInstalled held start (file_at start))))
 
+  abbrev NewStands : List (List ℕ) → Type 0
+  NewStands held = OnOk result (OfTold d (λ u. (start : FileTree) → IsSteadily held start u → OfTold e (IsInstalled held start (files_after held start u left made))))
+
+  abbrev OldStands : List (List ℕ) → Type 0
+  OldStands held = OfTold d (λ u. (start : FileTree) → IsSteadily held start u → IfErr result (λ refusal. is_free refusal ≡ false → OfTold e (IsInstalled held start (file_at start))))
+
   abbrev Releases : List (List ℕ) → Type 0
   Releases held = OfTold d (λ u. is_free_result result ≡ false → OfTold e (λ v. map.get v (work_path held) ≡ None))
 
@@ -171,9 +180,12 @@ module _ (IsMade : FileTree → ℕ → Result Work Refusal → Type 0) (project
   stay : Stays project → EachImage a (IsSteadily project t) → IfErr result (λ refusal. is_free refusal ≡ false → EachImage e (IsInstalled project t (file_at t)))
   stay stays each = stays (with_claim project t) told_d t (each_d each)
 
-  in_project : OfTold b (λ u. TellsOne (λ work. work) (IsMade u left) made) → Told project → Moves project → Settles project → Stays project → Releases project
-      → Writes → Commanded IsMade project t a e result
-  in_project works tells_it moves settles stays releases writes_it = record {
+  steadily : IsSteadily project t (with_claim project t)
+  steadily = claimed_steadily project t (ready (with_claim project t) told_b)
+
+  in_project : OfTold b (λ u. TellsOne (λ work. work) (IsMade u left) made) → Told project → Moves project → Settles project → Stays project → NewStands project → OldStands project
+      → Releases project → Writes → Commanded IsMade project t a e result
+  in_project works tells_it moves settles stays new_stands old_stands releases writes_it = record {
     made = made;
     left = left;
     is_made = λ passed. works (with_claim project t) told_b;
@@ -183,6 +195,8 @@ module _ (IsMade : FileTree → ℕ → Result Work Refusal → Type 0) (project
     through = move moves;
     settled = on_ok result settle settles;
     refused = swap_err (EachImage e (IsInstalled project t (file_at t))) result (stay stays);
+    new_stands = on_ok result (λ stands. stands (with_claim project t) told_d t steadily) new_stands;
+    old_stands = λ passed. old_stands (with_claim project t) told_d t steadily;
     released = λ passed other. releases (with_claim project t) told_d other;
     unclaimed = λ refusal refuses_it other. claimed_and_not (claim_in t project) refusal passes refuses_it;
     writes = subst (λ (written : ℕ). e.writes ≤ after_more written (writes_of (with_claim project t) made)) (read.writes ∙ wrote) (writes_it (with_claim project t) told_d);
@@ -190,5 +204,5 @@ module _ (IsMade : FileTree → ℕ → Result Work Refusal → Type 0) (project
 
   -- What is held is the project.
   pub commanded : (held : List (List ℕ)) → held ≡ project → OfTold b (λ u. TellsOne (λ work. work) (IsMade u left) made) → Told held → Moves held → Settles held → Stays held
-      → Releases held → Writes → Commanded IsMade project t a e result
-  commanded held same works = subst (λ (h : List (List ℕ)). Told h → Moves h → Settles h → Stays h → Releases h → Writes → Commanded IsMade project t a e result) (sym same) (in_project works)
+      → NewStands held → OldStands held → Releases held → Writes → Commanded IsMade project t a e result
+  commanded held same works = subst (λ (h : List (List ℕ)). Told h → Moves h → Settles h → Stays h → NewStands h → OldStands h → Releases h → Writes → Commanded IsMade project t a e result) (sym same) (in_project works)

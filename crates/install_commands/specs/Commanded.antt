@@ -1,9 +1,10 @@
 -- What a command does that changes a project under its claim: what it answers, and what becomes of the project.
-use Rattle.std.specs.Prelude.{◌≡◌, ◌≤◌, ℕ, List, false, None, Result, Ok, Err, IfErr, IfOk, OnOk}
+use Rattle.std.specs.Prelude.{◌≡◌, ◌≤◌, ◌⊎◌, ℕ, List, false, Some, None, Result, Ok, Err, IfErr, IfOk, OnOk}
 use Rattle.std.specs.FinMap as map
 use Rattle.path_name.specs.Given.{◌>>=◌}
 use Rattle.tree_dev.specs.Trees.{FileTree, IsTree}
 use Rattle.tree_dev.specs.Device.{Meaning, OfTold}
+use Rattle.tree_dev.specs.Disk.{IsImage}
 use Rattle.tree_dev.specs.Projects.{file_at, work_path}
 use Rattle.tree_dev.specs.Steady.{EachImage, IsSteadily, Through}
 use Rattle.install_world.specs.InFlight.{Files, IsInFlight}
@@ -43,9 +44,18 @@ pub record Commanded (IsMade : FileTree → ℕ → Result Work Refusal → Type
   pub settled : OnOk result (EachImage before (IsSteadily project t) → EachImage now (IsInstalled project t (files_made project t left made)))
   -- after a refusal
   pub refused : IfErr result (λ refusal. is_free refusal ≡ false → EachImage before (IsSteadily project t) → EachImage now (IsInstalled project t (file_at t)))
+  -- In the tree that is told they stand so whatever a crash may leave at the start: the new project after Ok, and that of t after a
+  -- refusal behind the claim.
+  pub new_stands : OnOk result (OfTold now (IsInstalled project t (files_made project t left made)))
+  pub old_stands : claim_in t project ≡ Ok tt → IfErr result (λ refusal. is_free refusal ≡ false → OfTold now (IsInstalled project t (file_at t)))
   -- the claim is gone where there was one
   pub released : claim_in t project ≡ Ok tt → is_free_result result ≡ false → OfTold now (λ u. map.get u (work_path project) ≡ None)
   -- nothing was changed where there was none
   pub unclaimed : (refusal : Refusal) → claim_in t project ≡ Err refusal → is_free_result result ≡ false → now.told ≡ before.told
   -- at most one file is written for each that the parts of the work put, and one for the journal
   pub writes : now.writes ≤ after_more before.writes (writes_of (with_claim project t) made)
+
+-- A tree that a command has left: the one that is told; and, where t's project, t's surroundings and no journal were all that a crash
+-- might leave at the start, each that a crash may leave now.
+abbrev pub IsLeft : List (List ℕ) → FileTree → Meaning → Meaning → FileTree → Type 0
+IsLeft project t before now u = (now.told ≡ Some u) ⊎ (EachImage before (IsSteadily project t) × IsImage now.disks.now u)

@@ -10,6 +10,7 @@ ghost use Rattle.tree_dev.specs.declared.entry.Entry.TheVariants as entries;
 ghost use Rattle.install_world.specs.InFlight.{Files, IsInFlight};
 ghost use Rattle.install_world.specs.Moving.{Way};
 ghost use Rattle.install_world.specs.Recovery.{IsNewProject};
+ghost use Rattle.install_world.specs.Removals.{OnlyRemoved};
 ghost use Rattle.stage_job.specs.Staged.{IsClaimed, IsStagedJob, KeepsTelling, Staging};
 ghost use Rattle.vendor_journal.specs.Committing.{IsReady};
 ghost use Rattle.vendor_journal.specs.JobTargets.{journal_for};
@@ -93,6 +94,7 @@ fn release_refused<T: Tree>(alloc: Global, tree: &mut T, hold: Hold, refusal: Re
     ensures released { OfTold (T.meaning tree.old) (λ t. map.get t (work_path hold.project) ≡ Some entries.Folder → is_free result ≡ false
         → OfTold (T.meaning tree.new) (λ u. map.get u (work_path hold.project) ≡ None)) }
     ensures steady { Steady hold.project (T.meaning tree.old) (T.meaning tree.new) }
+    ensures stays { OfTold (T.meaning tree.old) (λ t. OfTold (T.meaning tree.new) (OnlyRemoved (work_path hold.project) t)) }
     ensures tells { KeepsTelling (T.meaning tree.old) (T.meaning tree.new) }
     ensures writes { (T.meaning tree.new).writes ≡ (T.meaning tree.old).writes }
     ensures causes { IsTrue (is_of_tree refusal) → IsTrue (is_of_tree result) }
@@ -225,6 +227,7 @@ fn release_done<T: Tree>(
     ensures told { OfTold (T.meaning tree.old) (λ t. map.get t (work_path hold.project) ≡ Some entries.Folder → Tells (λ given. given) (Ok lines) result) }
     ensures released { OnOk result (OfTold (T.meaning tree.new) (λ u. map.get u (work_path hold.project) ≡ None)) }
     ensures steady { Steady hold.project (T.meaning tree.old) (T.meaning tree.new) }
+    ensures stays { OfTold (T.meaning tree.old) (λ t. OfTold (T.meaning tree.new) (OnlyRemoved (work_path hold.project) t)) }
     ensures writes { (T.meaning tree.new).writes ≡ (T.meaning tree.old).writes }
     ensures causes { IfErr result (λ refusal. IsTrue (is_of_tree refusal)) }
     ensures device { IsTrue (is_device_fault result) → Rose (T.meaning tree.old).faults (T.meaning tree.new).faults }
@@ -254,6 +257,11 @@ fn end_made<T: Tree>(
         → EachImage (T.meaning tree.new) (IsInstalled hold.project start (files_after hold.project start t left.old.left (Ok work))))) }
     ensures refused { OfTold (T.meaning tree.old) (λ t. (start : FileTree) → EachImage (T.meaning tree.old) (IsSteadily hold.project start)
         → IfErr result (λ refusal. is_free refusal ≡ false → EachImage (T.meaning tree.new) (IsInstalled hold.project start (file_at start)))) }
+    // In the tree that is told too, whatever a crash may leave at the start: after Ok the new project, after a refusal that of the start.
+    ensures new_stands { OnOk result (OfTold (T.meaning tree.old) (λ t. (start : FileTree) → IsSteadily hold.project start t
+        → OfTold (T.meaning tree.new) (IsInstalled hold.project start (files_after hold.project start t left.old.left (Ok work))))) }
+    ensures old_stands { OfTold (T.meaning tree.old) (λ t. (start : FileTree) → IsSteadily hold.project start t
+        → IfErr result (λ refusal. is_free refusal ≡ false → OfTold (T.meaning tree.new) (IsInstalled hold.project start (file_at start)))) }
     ensures released { OfTold (T.meaning tree.old) (λ _. is_free_result result ≡ false → OfTold (T.meaning tree.new) (λ u. map.get u (work_path hold.project) ≡ None)) }
     ensures writes { OfTold (T.meaning tree.old) (λ t. (T.meaning tree.new).writes ≤ after_more (T.meaning tree.old).writes (files_written t work.job.parts)) }
     ensures causes { IfErr result (λ refusal. IsTrue (is_of_tree refusal)) }
@@ -295,6 +303,11 @@ pub fn end_work<T: Tree>(
     // want of memory.
     ensures refused { OfTold (T.meaning tree.old) (λ t. (start : FileTree) → EachImage (T.meaning tree.old) (IsSteadily hold.project start)
         → IfErr result (λ refusal. is_free refusal ≡ false → EachImage (T.meaning tree.new) (IsInstalled hold.project start (file_at start)))) }
+    // In the tree that is told too, whatever a crash may leave at the start: after Ok the new project, after a refusal that of the start.
+    ensures new_stands { OnOk result (OfTold (T.meaning tree.old) (λ t. (start : FileTree) → IsSteadily hold.project start t
+        → OfTold (T.meaning tree.new) (IsInstalled hold.project start (files_after hold.project start t left.old.left made)))) }
+    ensures old_stands { OfTold (T.meaning tree.old) (λ t. (start : FileTree) → IsSteadily hold.project start t
+        → IfErr result (λ refusal. is_free refusal ≡ false → OfTold (T.meaning tree.new) (IsInstalled hold.project start (file_at start)))) }
     ensures released { OfTold (T.meaning tree.old) (λ _. is_free_result result ≡ false → OfTold (T.meaning tree.new) (λ u. map.get u (work_path hold.project) ≡ None)) }
     // At most one file is written for each that the parts put, and one for the journal.
     ensures writes { OfTold (T.meaning tree.old) (λ t. (T.meaning tree.new).writes ≤ after_more (T.meaning tree.old).writes (writes_of t made)) }

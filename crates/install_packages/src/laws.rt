@@ -5,8 +5,6 @@ ghost use Rattle.std.specs.FinMap as map;
 ghost use Rattle.tree_dev.specs.Projects.{file_at, is_within, lock_path, vendor_path, work_path};
 ghost use Rattle.tree_dev.specs.Trees.{FileTree, IsTree};
 ghost use Rattle.tree_dev.specs.Device.{Meaning};
-ghost use Rattle.tree_dev.specs.Disk.{IsImage};
-ghost use Rattle.tree_dev.specs.Steady.{EachImage, IsSteadily};
 ghost use Rattle.tree_dev.specs.declared.limits.TheConstants.{ENTRIES};
 ghost use Rattle.composer_words.specs.declared.chosen.Ways.{Ways};
 ghost use Rattle.stage_job.specs.Jobs.{Files, job_result};
@@ -19,7 +17,7 @@ ghost use Rattle.install_choice.specs.Warnings.{warning_in};
 ghost use Rattle.install_choice.specs.declared.chosen.Chosen.{Chosen};
 ghost use Rattle.run_answers.specs.declared.refusal.Refusal.{Refusal};
 ghost use Rattle.install_commands.specs.Claiming.{with_claim};
-ghost use Rattle.install_commands.specs.Commanded.{Commanded};
+ghost use Rattle.install_commands.specs.Commanded.{Commanded, IsLeft};
 ghost use Rattle.install_commands.specs.declared.work.Work.{Work as Works};
 ghost use Rattle.table_files.specs.declared.building.Setting.{Setting};
 ghost use Rattle.install_packages.specs.Installations.{ArePackagesAt, ArePackagesShown, AreWrittenAt, HasNewProject, Installation, IsOffTargets, installed_files, kept_choice, project_in, tables_in};
@@ -61,14 +59,14 @@ pub fn commands_install_what_they_choose()
     ensures claimed { (at : List (List ℕ)) (t : FileTree) (path : List (List ℕ)) → map.get t (work_path at) ≡ None → file_at (with_claim at t) path ≡ file_at t path }
 {}
 
-/// Whatever a crash may leave once a command answered its lines has the project that it made: an installation of the packages
-/// that it chose, in the surroundings of before. As for the command, each tree that a crash may leave at the start has the project
-/// and the surroundings of the one that is told, and no journal.
+/// The tree that is told once a command answered its lines has the project that it made: an installation of the packages that it
+/// chose, in the surroundings of before. So has each tree that a crash may leave then, where each that a crash might leave at the
+/// start had the project and the surroundings of the one that was told, and no journal.
 pub fn commands_make_new_projects()
     ensures install { (at : List (List ℕ)) (ways : Ways) (start u : FileTree) (before now : Meaning) (lines : List ℕ) → Commanded (IsInstall at ways ENTRIES) at start before now (Ok lines)
-        → EachImage before (IsSteadily at start) → IsImage now.disks.now u → HasNewProject at ways start u }
+        → IsLeft at start before now u → HasNewProject at ways start u }
     ensures update { (at : List (List ℕ)) (ways : Ways) (start u : FileTree) (before now : Meaning) (lines : List ℕ) → Commanded (IsUpdate at ways ENTRIES) at start before now (Ok lines)
-        → EachImage before (IsSteadily at start) → IsImage now.disks.now u → HasNewProject at ways start u }
+        → IsLeft at start before now u → HasNewProject at ways start u }
 {}
 
 /// The tree with the claim, of which the laws of such projects speak, is a tree where the one at the start is, and has room for

@@ -18,7 +18,7 @@ pub returns-clause-tree : goal.returns-clause-tree
 returns-clause-tree c = λ project ways t before now status run ended. claimed_tree (IsDumpWork project ways) project t before now status run ended
 
 pub returns-clause-shown : goal.returns-clause-shown
-returns-clause-shown c = λ project ways t u before now status run ended each image told tree stands.
+returns-clause-shown c = λ project ways t u before now status run ended told tree stands.
     let did = commanded (IsDumpWork project ways) project t before now status run ended in
     let passes = claim_passes project t did.1.left did.1.made did.0 did.1.told in
-    c.dumped_projects.ensures project ways ENTRIES t u did.1.left did.1.made did.0 tree stands (did.1.released passes refl u told) (did.1.is_made passes) did.1.told (did.1.settled each u image)
+    c.dumped_projects.ensures project ways ENTRIES t u did.1.left did.1.made did.0 tree stands (did.1.released passes refl u told) (did.1.is_made passes) did.1.told (did.1.new_stands u told)

@@ -11,9 +11,9 @@ use Rattle.composer_top.specs.Outcome.Install.{IsInstallWork, IsUpdateWork}
 use Rattle.composer_top.proofs.laws.installed_projects_look_up.Goals as goal
 
 pub returns-clause-install : goal.returns-clause-install
-returns-clause-install c = λ project ways t u before now status run ended each image.
+returns-clause-install c = λ project ways t u before now status run ended is_left.
     let did = commanded (IsInstallWork project ways) project t before now status run ended in
-    c.commands_make_new_projects.ensures.install project ways t u before now did.0 did.1 each image
+    c.commands_make_new_projects.ensures.install project ways t u before now did.0 did.1 is_left
 
 pub returns-clause-update : goal.returns-clause-update
 returns-clause-update c = run_updated

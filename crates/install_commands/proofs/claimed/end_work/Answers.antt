@@ -1,7 +1,7 @@
 use Rattle.std.proofs.Common.{◌≡◌, ℕ, List, Result, sym, subst, inr}
 use Rattle.std.specs.Prelude.{IsTrue, IfErr, ◌⊎◌}
 use Rattle.std.proofs.lemmas.Result.{on_ok_weaker}
-use Rattle.tree_dev.specs.Device.{Rose}
+use Rattle.tree_dev.specs.Device.{OfTold, Rose}
 use Rattle.tree_dev.specs.Projects.{file_at}
 use Rattle.tree_dev.specs.Steady.{EachImage, Through}
 use Rattle.install_world.specs.InFlight.{IsInFlight}
@@ -13,6 +13,7 @@ use Rattle.install_commands.specs.Working.{IsInstalled, files_after, worked_in}
 use Rattle.install_commands.specs.declared.work.Work.{Work}
 use Rattle.install_commands.proofs.Ends.{not_made, refused_on, worked}
 use Rattle.install_commands.proofs.Flights.{steady_in_flight, steady_stays}
+use Rattle.install_commands.proofs.ToldEnds.{installed_as, removed_steadily}
 use Rattle.std.specs.Prelude.{◌≤◌}
 use Rattle.stage_job.specs.Written.{after_more}
 use Rattle.install_commands.specs.Working.{writes_of}
@@ -96,3 +97,16 @@ returns-in-Ok-clause-causes g c = λ causes. c.end_made.ensures.causes
 pub returns-in-Err-clause-causes : goal.returns-in-Err-clause-causes
 returns-in-Err-clause-causes g c = λ causes.
     c.release_refused.ensures.causes (subst (λ (made : Result Work Refusal). IfErr made (λ refusal. IsTrue (is_of_tree refusal))) c.in-Err.is causes)
+
+-- ---- the tree that is told
+
+pub returns-in-Ok-clause-new_stands : goal.returns-in-Ok-clause-new_stands
+returns-in-Ok-clause-new_stands g c = on_ok_weaker c.end_made.result
+    (λ stands t told start steadily.
+    subst (λ (made : Result Work Refusal). OfTold (g.T.Tree.meaning c.end_made.new.tree) (IsInstalled c.args.hold.project start (files_after c.args.hold.project start t c.args.left.now.left made)))
+    (sym c.in-Ok.is) (stands t told start steadily))
+    c.end_made.ensures.new_stands
+
+pub returns-in-Err-clause-old_stands : goal.returns-in-Err-clause-old_stands
+returns-in-Err-clause-old_stands g c = λ t told start steadily other u now.
+    installed_as c.args.hold.project start u (removed_steadily c.args.hold.project start t u steadily (c.release_refused.ensures.stays t told u now))

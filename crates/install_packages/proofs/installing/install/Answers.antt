@@ -26,10 +26,10 @@ returns-clause-commanded g c = λ t told.
     let meaning = g.T.Tree.meaning in
     commanded (IsInstall c.args.project.now c.args.ways.now ENTRIES) c.args.project.now t (meaning c.args.tree.now) (meaning c.claim_project.new.tree) (meaning c.install_work-made.new.tree)
     (meaning c.end_work.new.tree) c.install_work-made.result c.install_work-made.new.left.left c.end_work.result told (c.in_ok-hold.ensures.told t told) c.claim_project.ensures.tells
-    (c.in_ok-hold.ensures.claimed t told) c.claim_project.ensures.steady c.claim_project.ensures.writes (g.met.T.Tree.tells_trees c.claim_project.new.tree) _ c.install_work-made.ensures.only_read c.in_ok-hold.hold.project c.in_ok-hold.ensures.held
+    (c.in_ok-hold.ensures.claimed t told) c.claim_project.ensures.steady c.claim_project.ensures.writes (g.met.T.Tree.tells_trees c.claim_project.new.tree) c.in_ok-hold.ensures.ready _ c.install_work-made.ensures.only_read c.in_ok-hold.hold.project c.in_ok-hold.ensures.held
     (λ u told_u.
     subst (λ (left : ℕ). TellsOne (λ work. work) (IsInstall c.args.project.now c.args.ways.now left u c.install_work-made.new.left.left) c.install_work-made.result) c.all_entries-left.ensures
-    (c.install_work-made.ensures.told u told_u)) c.end_work.ensures.told c.end_work.ensures.through c.end_work.ensures.settled c.end_work.ensures.refused
+    (c.install_work-made.ensures.told u told_u)) c.end_work.ensures.told c.end_work.ensures.through c.end_work.ensures.settled c.end_work.ensures.refused c.end_work.ensures.new_stands c.end_work.ensures.old_stands
     c.end_work.ensures.released c.end_work.ensures.writes
 
 pub returns-in_err-hold-clause-commanded : goal.returns-in_err-hold-clause-commanded
