@@ -8,7 +8,7 @@ use Rattle.tree_dev.specs.Trees.{FileTree, IsTree, behind}
 use Rattle.tree_dev.specs.Changes.{changed}
 use Rattle.tree_dev.specs.Device.{Meaning}
 use Rattle.tree_dev.specs.Disk.{IsImage, IsOnDisk, reading}
-use Rattle.tree_dev.specs.Projects.{bytes_of, file_at, is_project_part, is_surroundings, is_within, journal_path, work_path}
+use Rattle.tree_dev.specs.Projects.{bytes_of, file_at, is_project_part, is_surroundings, journal_path, work_path}
 use Rattle.tree_dev.specs.Steady.{EachImage, IsSteadily}
 use Rattle.tree_dev.specs.Told.{equal_paths}
 use Rattle.tree_dev.specs.declared.change.Change.TheVariants as changes
