@@ -4,7 +4,7 @@ use Rattle.std.specs.Prelude.{IfErr, IfOk, OnOk, is_ok}
 use Rattle.std.proofs.lemmas.Bool.{false≢true}
 use Rattle.path_name.specs.Given.{◌>>=◌}
 use Rattle.tree_dev.specs.Trees.{FileTree}
-use Rattle.tree_dev.specs.Device.{Meaning}
+use Rattle.tree_dev.specs.Device.{Meaning, OfTold}
 use Rattle.tree_dev.specs.Projects.{file_at}
 use Rattle.tree_dev.specs.Steady.{EachImage, IsSteadily}
 use Rattle.tree_dev.proofs.SteadyRules.{steady_start}
