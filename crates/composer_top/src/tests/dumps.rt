@@ -194,7 +194,7 @@ fn stopped_dumps(rt: HostRuntime) -> Result<(), Fail> {
     let mut tree = tree_of(&rt, rt.alloc(), &row)?;
     gives(&rt, rt.alloc(), &row, &mut tree)?;
     let mut before = u64::MAX;
-    for call in 1..=tree.calls() + 1 {
+    for call in 1..=tree.calls().saturating_add(1) {
         let pending = stopped(&rt, rt.alloc(), &row, call)?.pending();
         if pending == before {
             continue;
